@@ -1,0 +1,5 @@
+pub mod Picks
+pub mod Tops
+pub mod Counts
+pub mod Rising
+pub mod Alike

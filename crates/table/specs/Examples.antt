@@ -1,0 +1,55 @@
+-- The definitions on small tables. Assumes nothing.
+use mathlib.Core.Path.{_≡_}
+use mathlib.Core.Bool.{Bool, true, false}
+use mathlib.Core.List.{List, [], _∷_}
+use Prim.Native.Nat.{ℕ}
+use Rattle.std.specs.declared.option.Option.{Option}
+use Rattle.std.specs.declared.option.Option.the-variants.{Some, None}
+use Rattle.prefix.specs.Bits.{Bits}
+use Rattle.table.specs.declared.lookups.Match.{Match}
+use Rattle.table.specs.Tables.{Entry, Entries, find, sends, sound, at, without, put, rising, seen}
+
+abbrev line : Bits → ℕ → Entry
+line p h = record { prefix = p; hop = h }
+
+abbrev by : ℕ → ℕ → Option Match
+by n h = Some (record { len = n; «next_hop» = h })
+
+-- one line for all addresses; a longer one under it; one that drops under that
+abbrev nested : Entries
+nested = line [] 1 ∷ line (false ∷ []) 2 ∷ line (false ∷ true ∷ []) 0 ∷ []
+
+abbrev pub LookUps : Type 0
+LookUps =
+    -- no line at all: dropped, and by none
+    (find [] (true ∷ true ∷ []) ≡ None) ×
+    (sends [] (true ∷ true ∷ []) ≡ 0) ×
+    -- a line for all addresses
+    (find nested (true ∷ true ∷ []) ≡ by 0 1) ×
+    -- a longer line under a shorter
+    (find nested (false ∷ false ∷ []) ≡ by 1 2) ×
+    -- next hop 0 under a line: dropped, and not absent
+    (find nested (false ∷ true ∷ []) ≡ by 2 0) ×
+    (sends nested (false ∷ true ∷ []) ≡ 0) ×
+    -- what that address sees at the lengths 0, 1 and 2, and beyond
+    (seen nested (false ∷ true ∷ []) 0 ≡ Some 1) ×
+    (seen nested (false ∷ true ∷ []) 1 ≡ Some 2) ×
+    (seen nested (false ∷ true ∷ []) 2 ≡ Some 0) ×
+    (seen nested (false ∷ true ∷ []) 3 ≡ None)
+
+abbrev pub Changes : Type 0
+Changes =
+    (sound 2 nested ≡ true) ×
+    -- too long for addresses of one bit; a next hop too high; one prefix twice
+    (sound 1 nested ≡ false) ×
+    (sound 2 (line [] 256 ∷ []) ≡ false) ×
+    (sound 2 (line [] 1 ∷ line [] 2 ∷ []) ≡ false) ×
+    (rising nested ≡ true) ×
+    (rising (line (true ∷ []) 1 ∷ line (false ∷ []) 2 ∷ []) ≡ false) ×
+    -- put over a line, between two, and at the end
+    (put (line (false ∷ []) 7) nested ≡ line [] 1 ∷ line (false ∷ []) 7 ∷ line (false ∷ true ∷ []) 0 ∷ []) ×
+    (put (line (false ∷ false ∷ []) 7) nested ≡ line [] 1 ∷ line (false ∷ []) 2 ∷ line (false ∷ false ∷ []) 7 ∷ line (false ∷ true ∷ []) 0 ∷ []) ×
+    (put (line (true ∷ []) 7) nested ≡ line [] 1 ∷ line (false ∷ []) 2 ∷ line (false ∷ true ∷ []) 0 ∷ line (true ∷ []) 7 ∷ []) ×
+    (without (false ∷ []) nested ≡ line [] 1 ∷ line (false ∷ true ∷ []) 0 ∷ []) ×
+    (at nested (false ∷ []) ≡ Some 2) ×
+    (at nested (true ∷ []) ≡ None)
