@@ -3,3 +3,5 @@ pub mod Tops
 pub mod Counts
 pub mod Rising
 pub mod Alike
+pub mod Places
+pub mod Held

@@ -1,3 +1,6 @@
 pub mod Tables
 pub mod Laws
 pub mod Examples
+pub mod Routes
+pub mod Search
+pub mod Model

@@ -1,0 +1,50 @@
+use mathlib.Core.Path.{_≡_, sym, ap, _∙_}
+use mathlib.Core.List.{map}
+use Prim.Native.Nat.{ℕ, _-_, _<_}
+use native.Mathlib.Omega.{arith}
+use lib.ListN.{length}
+use Rattle.std.specs.declared.cmp.Ordering.the-variants.{Equal}
+use Rattle.std.specs.Of.Vec.{vec-items, vec-len}
+use Rattle.std.proofs.shelf.Lists.{length-map}
+use Rattle.prefix.specs.Bits.{Bits}
+use Rattle.prefix.specs.Model.{bits, compared}
+use Rattle.table.specs.declared.table.Table.{Table}
+use Rattle.table.specs.Routes.{entryOf, networkOf}
+use Rattle.table.specs.Search.{Ranked}
+use Rattle.table.specs.Model.{entries}
+use Rattle.table.proofs.Places.{ranked-at, prefix-at, ranked-stands, ranked-missing}
+use Rattle.table.proofs.table.Table.search.Needs as need
+
+pub rank-end-requires : need.rank-end-requires
+rank-end-requires c κs =
+    record {
+      ordered = rw (c .deref-2 .ensures .value) (c .args .self .now .ordered);
+      indexed = c .deref .ensures .value ∙ c .args .self .now .indexed ∙ ap (map networkOf) (sym (c .deref-2 .ensures .value));
+    }
+
+-- the last of those that come no later
+last-within : (t : Table) (p : Bits) (r : ℕ) → Ranked (entries t) p r → (r ≡ 0 → ⊥) → (r - 1 < vec-len (t .routes)) × (r - 1 < length (vec-items (t .routes)))
+last-within t p r k n =
+    let l = length-map (vec-items (t .routes)) entryOf in
+    let m = t .routes .ok .0 in
+    (omega (arith, k .within), omega (arith, k .within))
+
+pub index-requires : need.index-requires
+index-requires c κs =
+    last-within (c .args .self .now) (bits (c .args .prefix)) (c .rank-end .result) (ranked-at _ _ _ _ (c .deref-2 .ensures .value) (c .rank-end .ensures)) (c .if-end-eq0 .left) .0
+
+pub returns-in-Equal : need.returns-in-Equal
+returns-in-Equal c =
+    let t = c .args .self .now in
+    let p = bits (c .args .prefix) in
+    let k = ranked-at (vec-items (t .routes)) _ p (c .rank-end .result) (c .deref-2 .ensures .value) (c .rank-end .ensures) in
+    let e = prefix-at (vec-items (t .routes)) (c .rank-end .result - 1) (c .index .result .now) (last-within t p _ k (c .if-end-eq0 .left) .1) (c .index .ensures) in
+    ranked-stands (entries t) p (c .rank-end .result) k (c .if-end-eq0 .left) (c .in-Equal .ensures tt ∙ ap (λ (q : Bits). compared q p) (sym e))
+
+pub returns-in-rest : need.returns-in-rest
+returns-in-rest c =
+    let t = c .args .self .now in
+    let p = bits (c .args .prefix) in
+    let k = ranked-at (vec-items (t .routes)) _ p (c .rank-end .result) (c .deref-2 .ensures .value) (c .rank-end .ensures) in
+    let e = prefix-at (vec-items (t .routes)) (c .rank-end .result - 1) (c .index .result .now) (last-within t p _ k (c .if-end-eq0 .left) .1) (c .index .ensures) in
+    ranked-missing (entries t) p (c .rank-end .result) (t .ordered) k (c .if-end-eq0 .left) (λ z. c .in-rest .not-Equal (c .compare .ensures ∙ ap (λ (q : Bits). compared q p) (sym e) ∙ z))

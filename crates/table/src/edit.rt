@@ -1,0 +1,86 @@
+ghost use mathlib.Core.Path.{_≡_};
+ghost use mathlib.Core.List.{[], map};
+ghost use lib.ListN.{length};
+ghost use Rattle.std.specs.Results.{Cases};
+ghost use Rattle.prefix.specs.Model.{bits};
+ghost use Rattle.table.specs.Tables.{at, put, without};
+ghost use Rattle.table.specs.Routes.{entryOf};
+ghost use Rattle.table.specs.Model.{entries};
+use crate::route::NextHop;
+use crate::route::Route;
+use crate::table::Table;
+use prefix::Prefix;
+use std::alloc::AllocError;
+use std::alloc::Global;
+
+impl Table {
+    // A table of no routes.
+    pub fn new(heap: Global) -> Table
+        ensures { λ r. ⌜ entries r ≡ [] ⌝ }
+    {
+        Table {
+            routes: Vec::new(heap),
+            networks: Vec::new(heap),
+        }
+    }
+
+    // How many routes it holds.
+    pub fn len(&self) -> usize
+        ensures { λ r. ⌜ r ≡ length (entries (now (self .entry))) ⌝ }
+    {
+        self.routes.len()
+    }
+
+    // Its routes, in their order.
+    pub fn routes(&self) -> &[Route]
+        ensures { λ r. ⌜ map entryOf (now r) ≡ entries (now (self .entry)) ⌝ }
+    {
+        self.routes.as_slice()
+    }
+
+    // The next hop of the route with this prefix.
+    pub fn get(&self, prefix: Prefix) -> Option<NextHop>
+        ensures { λ r. ⌜ r ≡ at (entries (now (self .entry))) (bits prefix) ⌝ }
+    {
+        match self.search(prefix) {
+            Ok(i) => Some(self.routes[i].next_hop),
+            Err(_) => None,
+        }
+    }
+
+    // Puts a route, in place of one with the same prefix, whose next hop is given back.
+    // Where there is no memory for one more, the table is as it was.
+    pub fn put(&mut self, route: Route) -> Result<Option<NextHop>, AllocError>
+        ensures { λ r. ⌜ Cases r (λ old. (old ≡ at (entries (now (self .entry))) (bits (route .prefix))) × (entries (now (self .exit)) ≡ put (entryOf route) (entries (now (self .entry))))) (λ _. entries (now (self .exit)) ≡ entries (now (self .entry))) ⌝ }
+    {
+        match self.search(route.prefix) {
+            Ok(i) => {
+                let old = self.routes[i].next_hop;
+                self.routes[i] = route;
+                Ok(Some(old))
+            }
+            Err(i) => {
+                self.networks.insert(i, route.prefix.network())?;
+                if self.routes.insert(i, route).is_err() {
+                    self.networks.remove(i);
+                    return Err(AllocError);
+                }
+                Ok(None)
+            }
+        }
+    }
+
+    // Takes away the route with this prefix, and gives back its next hop; none where there was none.
+    pub fn remove(&mut self, prefix: Prefix) -> Option<NextHop>
+        ensures gone { λ r. ⌜ entries (now (self .exit)) ≡ without (bits prefix) (entries (now (self .entry))) ⌝ }
+        ensures value { λ r. ⌜ r ≡ at (entries (now (self .entry))) (bits prefix) ⌝ }
+    {
+        match self.search(prefix) {
+            Ok(i) => {
+                self.networks.remove(i);
+                Some(self.routes.remove(i).next_hop)
+            }
+            Err(_) => None,
+        }
+    }
+}
