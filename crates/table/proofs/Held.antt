@@ -1,23 +1,24 @@
 -- The vectors of a table: as long as each other, and what they hold after a change at a place. Assumes nothing.
 use mathlib.Core.Path.{_≡_, refl, sym, ap, subst, _∙_}
 use mathlib.Core.Bool.{true}
-use mathlib.Core.List.{List, map}
-use Prim.Native.Nat.{ℕ, _<_, _≤_}
+use mathlib.Core.List.{List, [], _∷_, map}
+use Prim.Native.Nat.{ℕ, _-_, _<_, _≤_}
 use native.Mathlib.Omega.{arith}
 use lib.ListN.{length, set}
 use Rattle.std.specs.Of.Vec.{vec-items, vec-len}
 use Rattle.std.specs.Holes.{inserted, removed}
 use Rattle.std.proofs.shelf.Lists.{length-map, map-set}
+use Rattle.std.proofs.shelf.Tests.{and-from, le-leb}
 use Rattle.prefix.specs.Bits.{Bits}
 use Rattle.prefix.specs.Model.{bits}
 use Rattle.table.specs.declared.route.Route.{Route}
 use Rattle.table.specs.declared.table.Table.{Table}
-use Rattle.table.specs.Tables.{Entries, put, without, rising}
+use Rattle.table.specs.Tables.{Entries, fits, put, without, rising}
 use Rattle.table.specs.Routes.{entryOf, networkOf}
-use Rattle.table.specs.Search.{Stands, Missing}
-use Rattle.table.specs.Model.{entries}
-use Rattle.table.proofs.Rising.{rising-put, rising-without}
-use Rattle.table.proofs.Places.{standing, lacking, map-inserted, map-removed, networks-stay}
+use Rattle.table.specs.Search.{Ranked, Stands, Missing}
+use Rattle.table.specs.Model.{entries, AllSound}
+use Rattle.table.proofs.Rising.{rising-distinct, rising-put, rising-without}
+use Rattle.table.proofs.Places.{standing, lacking, key-short, map-inserted, map-removed, networks-stay}
 
 -- both vectors have as many elements as there are lines
 long : (t : Table) → (vec-len (t .routes) ≡ length (entries t)) × (vec-len (t .networks) ≡ length (entries t)) × (length (vec-items (t .routes)) ≡ length (entries t)) × (length (vec-items (t .networks)) ≡ length (entries t))
@@ -49,6 +50,10 @@ pub upto : (t : Table) (p : Bits) (i : ℕ) → Missing (entries t) p i → Upto
 upto t p i s =
     let l = long t in let w = s .within in
     record { in-routes = omega (arith, l .0); in-networks = omega (arith, l .1); in-items = omega (arith, l .3) }
+
+-- the last of the routes that come no later than a key
+pub last-within : (t : Table) (p : Bits) (r : ℕ) → Ranked (entries t) p r → (r ≡ 0 → ⊥) → (r - 1 < vec-len (t .routes)) × (r - 1 < length (vec-items (t .routes)))
+last-within t p r k n = let l = long t in (omega (arith, k .within, l .0), omega (arith, k .within, l .2))
 
 -- what a table's vectors must satisfy
 pub record Sound (rs : List Route) (ns : List ℕ) : Type 0 where
@@ -97,3 +102,14 @@ module _ (t : Table) (p : Bits) (i : ℕ) (s : Stands (entries t) p i) where
 -- the same, of what the vectors are found to hold
 pub sound-at : (rs rs′ : List Route) (ns ns′ : List ℕ) → rs′ ≡ rs → ns′ ≡ ns → Sound rs ns → Sound rs′ ns′
 sound-at rs rs′ ns ns′ e f s = record { ordered = rw e (s .ordered); indexed = f ∙ s .indexed ∙ ap (map networkOf) (sym e) }
+
+-- every table is sound
+
+fits-all : (rs : List Route) → fits 32 (map entryOf rs) ≡ true
+unfolding fits
+fits-all [] = refl
+fits-all (r ∷ rs) =
+    and-from _ _ (and-from _ _ (le-leb _ _ (key-short (r .prefix))) (le-leb _ _ (r .octet))) (fits-all rs)
+
+pub all-sound : AllSound
+all-sound t = (and-from _ _ (rising-distinct (entries t) (t .ordered)) (fits-all (vec-items (t .routes))), t .ordered)

@@ -5,3 +5,5 @@ pub mod Rising
 pub mod Alike
 pub mod Places
 pub mod Held
+pub mod Longest
+pub mod Steps

@@ -35,7 +35,7 @@ seen-far (e ∷ es) a n h =
     (λ _. seen-far es a n h)
 
 -- what stands at the longest length, if anything does
-pub Highest : (ℕ → Option ℕ) → Option Match → Type 0
+unfoldable pub Highest : (ℕ → Option ℕ) → Option Match → Type 0
 Highest f None = (n : ℕ) → f n ≡ None
 Highest f (Some m) = (f (m .len) ≡ Some (m .«next_hop»)) × ((n : ℕ) → m .len < n → f n ≡ None)
 

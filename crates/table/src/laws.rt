@@ -1,4 +1,5 @@
 ghost use Rattle.table.specs.Examples.{Changes, LookUps};
+ghost use Rattle.table.specs.Model.{AllSound};
 ghost use Rattle.table.specs.Laws.{AtPut, AtWithout, CountPut, CountWithout, LinesDecide, OrderFree, RisingDistinct, RisingOnce, SeenAt, SeenPut, SeenWithout, StaysRising, StaysSound, Topmost};
 
 // The definitions on small tables.
@@ -49,6 +50,13 @@ pub fn order_is_free()
 pub fn lines_decide()
     ensures alike { λ _. ⌜ LinesDecide ⌝ }
     ensures once { λ _. ⌜ RisingOnce ⌝ }
+{
+    ()
+}
+
+// Every table of the code is sound for addresses of 32 bits, and its lines rise.
+pub fn tables_are_sound()
+    ensures { λ _. ⌜ AllSound ⌝ }
 {
     ()
 }

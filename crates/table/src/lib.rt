@@ -2,6 +2,7 @@
 mod edit;
 mod laws;
 mod lookups;
+mod lpm;
 mod route;
 mod search;
 mod table;
@@ -11,6 +12,7 @@ pub use laws::change_keeps_sound;
 pub use laws::lines_decide;
 pub use laws::lookup_is_topmost;
 pub use laws::order_is_free;
+pub use laws::tables_are_sound;
 pub use laws::tables_by_example;
 pub use lookups::Match;
 pub use lookups::MatchDebug;

@@ -1,18 +1,13 @@
 use mathlib.Core.Path.{_≡_, sym, ap, _∙_}
 use mathlib.Core.List.{map}
-use Prim.Native.Nat.{ℕ, _-_, _<_}
-use native.Mathlib.Omega.{arith}
-use lib.ListN.{length}
-use Rattle.std.specs.declared.cmp.Ordering.the-variants.{Equal}
-use Rattle.std.specs.Of.Vec.{vec-items, vec-len}
-use Rattle.std.proofs.shelf.Lists.{length-map}
+use Prim.Native.Nat.{_-_}
+use Rattle.std.specs.Of.Vec.{vec-items}
 use Rattle.prefix.specs.Bits.{Bits}
 use Rattle.prefix.specs.Model.{bits, compared}
-use Rattle.table.specs.declared.table.Table.{Table}
-use Rattle.table.specs.Routes.{entryOf, networkOf}
-use Rattle.table.specs.Search.{Ranked}
+use Rattle.table.specs.Routes.{networkOf}
 use Rattle.table.specs.Model.{entries}
 use Rattle.table.proofs.Places.{ranked-at, prefix-at, ranked-stands, ranked-missing}
+use Rattle.table.proofs.Held.{last-within}
 use Rattle.table.proofs.table.Table.search.Needs as need
 
 pub rank-end-requires : need.rank-end-requires
@@ -21,13 +16,6 @@ rank-end-requires c κs =
       ordered = rw (c .deref-2 .ensures .value) (c .args .self .now .ordered);
       indexed = c .deref .ensures .value ∙ c .args .self .now .indexed ∙ ap (map networkOf) (sym (c .deref-2 .ensures .value));
     }
-
--- the last of those that come no later
-last-within : (t : Table) (p : Bits) (r : ℕ) → Ranked (entries t) p r → (r ≡ 0 → ⊥) → (r - 1 < vec-len (t .routes)) × (r - 1 < length (vec-items (t .routes)))
-last-within t p r k n =
-    let l = length-map (vec-items (t .routes)) entryOf in
-    let m = t .routes .ok .0 in
-    (omega (arith, k .within), omega (arith, k .within))
 
 pub index-requires : need.index-requires
 index-requires c κs =
