@@ -7,6 +7,7 @@ use std::error::AnyError;
 use std::time::Instant;
 use table::Route;
 use table::Table;
+use table::wanted_limit;
 
 // the most lines that a wanted table has
 const LINES: usize = 32_768;
@@ -36,12 +37,12 @@ fn route(seed: u64) -> Route {
     }
 }
 
-// Puts routes until the table is full.
+// Puts routes until there are as many as a wanted table may have.
 fn fill(heap: Global) -> Result<Table, AnyError> {
     let mut table = Table::new(heap);
     let mut seed = 1;
-    for _ in 0..10 * LINES {
-        if table.len() >= LINES {
+    for _ in 0..1_000_000 {
+        if table.len() >= wanted_limit() {
             break;
         }
         seed = next(seed);

@@ -101,8 +101,8 @@ fn prefixes_join_up_to_all_bits() -> Result<(), Fail> {
 fn whole(p: Prefix, q: Prefix) -> Result<(), Fail> {
     match p.parting(q) {
         Parting::Same => check_eq(p, q),
-        Parting::Longer(side, rest) => check_eq(q.join(side, rest), Some(p)),
-        Parting::Shorter(side, rest) => check_eq(p.join(side, rest), Some(q)),
+        Parting::Below(side, rest) => check_eq(q.join(side, rest), Some(p)),
+        Parting::Above(side, rest) => check_eq(p.join(side, rest), Some(q)),
         Parting::Apart(stem, side, rest, other) => {
             check_eq(stem.join(side, rest), Some(p))?;
             check_eq(stem.join(!side, other), Some(q))

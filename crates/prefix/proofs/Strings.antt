@@ -114,11 +114,11 @@ Splits p n s r = p ≡ take n p ++ (s ∷ r)
 pub parted-same : (p q : Bits) (n : ℕ) → Common p q n → n ≡ length p → n ≡ length q → p ≡ q
 parted-same p q n c e f = sym (take-all n p (omega arith)) ∙ c .shared ∙ take-all n q (omega arith)
 
-pub parted-longer : (p q : Bits) (n : ℕ) (s : Bool) (r : Bits) → Common p q n → n ≡ length q → Splits p n s r → p ≡ q ++ (s ∷ r)
-parted-longer p q n s r c e h = h ∙ ap (λ (x : Bits). x ++ (s ∷ r)) (c .shared ∙ take-all n q (omega arith))
+pub parted-below : (p q : Bits) (n : ℕ) (s : Bool) (r : Bits) → Common p q n → n ≡ length q → Splits p n s r → p ≡ q ++ (s ∷ r)
+parted-below p q n s r c e h = h ∙ ap (λ (x : Bits). x ++ (s ∷ r)) (c .shared ∙ take-all n q (omega arith))
 
-pub parted-shorter : (p q : Bits) (n : ℕ) (s : Bool) (r : Bits) → Common p q n → n ≡ length p → Splits q n s r → q ≡ p ++ (s ∷ r)
-parted-shorter p q n s r c e h = h ∙ ap (λ (x : Bits). x ++ (s ∷ r)) (sym (c .shared) ∙ take-all n p (omega arith))
+pub parted-above : (p q : Bits) (n : ℕ) (s : Bool) (r : Bits) → Common p q n → n ≡ length p → Splits q n s r → q ≡ p ++ (s ∷ r)
+parted-above p q n s r c e h = h ∙ ap (λ (x : Bits). x ++ (s ∷ r)) (sym (c .shared) ∙ take-all n p (omega arith))
 
 split-at : (p : Bits) (n : ℕ) (s : Bool) (r : Bits) → n ≤ length p → Splits p n s r → getD p n false ≡ s
 split-at p n s r h e =

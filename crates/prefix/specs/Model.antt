@@ -9,7 +9,7 @@ use Rattle.std.specs.declared.cmp.Ordering.{Ordering}
 use Rattle.std.specs.declared.cmp.Ordering.the-variants.{Less, Equal, Greater}
 use Rattle.prefix.specs.declared.cidr.Prefix.{Prefix}
 use Rattle.prefix.specs.declared.part.Parting.{Parting}
-use Rattle.prefix.specs.declared.part.Parting.the-variants.{Same, Longer, Shorter, Apart}
+use Rattle.prefix.specs.declared.part.Parting.the-variants.{Same, Below, Above, Apart}
 use Rattle.prefix.specs.Bits.{Bits, bitsOf, same, before}
 
 -- an address of the code: all of its 32 bits
@@ -27,8 +27,8 @@ canonical w net n = leb n w && eqb (net % 2 ^ (w - n)) 0
 -- how p stands to q
 abbrev pub Parted : Bits → Bits → Parting → Type 0
 Parted p q Same = p ≡ q
-Parted p q (Longer side rest) = p ≡ q ++ (side ∷ bits rest)
-Parted p q (Shorter side rest) = q ≡ p ++ (side ∷ bits rest)
+Parted p q (Below side rest) = p ≡ q ++ (side ∷ bits rest)
+Parted p q (Above side rest) = q ≡ p ++ (side ∷ bits rest)
 Parted p q (Apart stem side rest other) = (p ≡ bits stem ++ (side ∷ bits rest)) × (q ≡ bits stem ++ (not side ∷ bits other))
 
 -- what a comparison of p with q answers

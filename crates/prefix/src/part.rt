@@ -13,9 +13,9 @@ use crate::shift::shr;
 pub enum Parting {
     Same,
     // It goes on below the other: the next bit, and the rest.
-    Longer(bool, Prefix),
+    Below(bool, Prefix),
     // The other goes on below it.
-    Shorter(bool, Prefix),
+    Above(bool, Prefix),
     // Both go on, apart: what they share, the next bit and the rest of this one, and the rest of the other.
     Apart(Prefix, bool, Prefix, Prefix),
 }
@@ -66,11 +66,11 @@ impl Prefix {
                 return Parting::Same;
             }
             let (side, rest) = self.after(n);
-            return Parting::Longer(side, rest);
+            return Parting::Below(side, rest);
         }
         if n == self.len {
             let (side, rest) = other.after(n);
-            return Parting::Shorter(side, rest);
+            return Parting::Above(side, rest);
         }
         let (side, rest) = self.after(n);
         let (_, otherwise) = other.after(n);

@@ -60,7 +60,7 @@ pub record Picked (f : Bits → Bool) (t : Entries) (x : ℕ) : Type 0 where
   pub gives : line .hop ≡ x
 
 module _ (f : Bits → Bool) (single : Single f) where
-  picked : (t : Entries) (x : ℕ) → pick f t ≡ Some x → Picked f t x
+  pub picked : (t : Entries) (x : ℕ) → pick f t ≡ Some x → Picked f t x
   unfolding pick holds
   picked [] x h = let z : _≡_ {A = ℕ} 0 1 = cc in absurd (omega arith)
   picked (e ∷ es) x h =

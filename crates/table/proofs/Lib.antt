@@ -7,3 +7,4 @@ pub mod Places
 pub mod Held
 pub mod Longest
 pub mod Steps
+pub mod Matches

@@ -69,11 +69,11 @@ key-short p = omega (arith, bits-length p, p .short)
 
 -- a comparison by numbers, and at equal ones by lengths
 
-pub by-network : (p q : Bits) → length p ≤ 32 → length q ≤ 32 → (number 32 q ≡ number 32 p → ⊥) → ltb (number 32 q) (number 32 p) ≡ not (before p q)
-by-network p q h k n = let e = by-number 32 p q h k in grind (arith, tells)
+pub by-network : (w : ℕ) (p q : Bits) → length p ≤ w → length q ≤ w → (number w q ≡ number w p → ⊥) → ltb (number w q) (number w p) ≡ not (before p q)
+by-network w p q h k n = let e = by-number w p q h k in grind (arith, tells)
 
-pub by-length : (p q : Bits) → length p ≤ 32 → length q ≤ 32 → number 32 q ≡ number 32 p → leb (length q) (length p) ≡ not (before p q)
-by-length p q h k n = let e = by-number 32 p q h k in grind (arith, tells)
+pub by-length : (w : ℕ) (p q : Bits) → length p ≤ w → length q ≤ w → number w q ≡ number w p → leb (length q) (length p) ≡ not (before p q)
+by-length w p q h k n = let e = by-number w p q h k in grind (arith, tells)
 
 -- lines at two places
 

@@ -9,7 +9,22 @@ use Rattle.std.specs.declared.option.Option.{Option}
 use Rattle.std.specs.declared.option.Option.the-variants.{Some, None}
 use Rattle.std.specs.Slices.{Shuffled}
 use Rattle.prefix.specs.Bits.{Bits, begins, same}
-use Rattle.table.specs.Tables.{Entry, Entries, find, SendSame, has, distinct, sound, at, without, put, rising, holds, sits, seen, top}
+use Rattle.table.specs.declared.lookups.Match.{Match}
+use Rattle.table.specs.Tables.{Entry, Entries, matched, find, SendSame, has, distinct, sound, at, without, put, rising, holds, sits, seen, top}
+
+-- a line of a table is the longest with which an address begins
+pub record LongestLine (t : Entries) (a : Bits) (e : Entry) : Type 0 where
+  pub held : holds e t ≡ true
+  pub begun : begins (e .prefix) a ≡ true
+  pub longest : (f : Entry) → holds f t ≡ true → begins (f .prefix) a ≡ true → length (f .prefix) ≤ length (e .prefix)
+
+-- a look-up finds the longest line with which the address begins, whichever it is; what it finds is such a line;
+-- and it finds none only where the address begins with no line
+abbrev pub Longest : Type 0
+Longest = (t : Entries) (a : Bits) → distinct t ≡ true →
+    ((e : Entry) → LongestLine t a e → find t a ≡ Some (matched e)) ×
+    ((m : Match) → find t a ≡ Some m → (e : Entry) × LongestLine t a e × (matched e ≡ m)) ×
+    (find t a ≡ None → (e : Entry) → holds e t ≡ true → begins (e .prefix) a ≡ false)
 
 -- a look-up is the topmost of what the address sees, length by length
 abbrev pub Topmost : Type 0

@@ -1,11 +1,18 @@
 ghost use Rattle.table.specs.Examples.{Changes, LookUps};
 ghost use Rattle.table.specs.Model.{AllSound};
-ghost use Rattle.table.specs.Laws.{AtPut, AtWithout, CountPut, CountWithout, LinesDecide, OrderFree, RisingDistinct, RisingOnce, SeenAt, SeenPut, SeenWithout, StaysRising, StaysSound, Topmost};
+ghost use Rattle.table.specs.Laws.{AtPut, AtWithout, CountPut, CountWithout, LinesDecide, Longest, OrderFree, RisingDistinct, RisingOnce, SeenAt, SeenPut, SeenWithout, StaysRising, StaysSound, Topmost};
 
 // The definitions on small tables.
 pub fn tables_by_example()
     ensures lookups { λ _. ⌜ LookUps ⌝ }
     ensures changes { λ _. ⌜ Changes ⌝ }
+{
+    ()
+}
+
+// A look-up finds the longest line with which the address begins.
+pub fn lookup_is_longest()
+    ensures { λ _. ⌜ Longest ⌝ }
 {
     ()
 }

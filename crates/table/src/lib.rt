@@ -1,6 +1,7 @@
 // Routes, tables of them, and longest-prefix match.
 mod edit;
 mod laws;
+mod limits;
 mod lookups;
 mod lpm;
 mod route;
@@ -10,10 +11,13 @@ mod table;
 pub use laws::change_is_local;
 pub use laws::change_keeps_sound;
 pub use laws::lines_decide;
+pub use laws::lookup_is_longest;
 pub use laws::lookup_is_topmost;
 pub use laws::order_is_free;
 pub use laws::tables_are_sound;
 pub use laws::tables_by_example;
+pub use limits::device_limit;
+pub use limits::wanted_limit;
 pub use lookups::Match;
 pub use lookups::MatchDebug;
 pub use lookups::MatchEq;

@@ -24,7 +24,7 @@ returns-then-network c =
     let q = prefixAt (map entryOf rs) i in
     let n = ap (λ xs. getD xs i 0) (c .pre .indexed) ∙ network-at rs i (c .pre .within) in
     rw (n, c .network-then-network .ensures)
-    (by-network p q (key-short (c .args .key)) (prefix-short rs i) (λ e. c .if-network .taken (n ∙ e ∙ sym (c .network .ensures))))
+    (by-network 32 p q (key-short (c .args .key)) (prefix-short rs i) (λ e. c .if-network .taken (n ∙ e ∙ sym (c .network .ensures))))
 
 pub returns : need.returns
 returns c =
@@ -35,4 +35,4 @@ returns c =
     let n = ap (λ xs. getD xs i 0) (c .pre .indexed) ∙ network-at rs i (c .pre .within) in
     let e = ap (λ (x : Entry). length (x .prefix)) (entry-at rs i (c .index-routes-place .result) (c .pre .within) (c .index-routes-place .is)) in
     ap (λ x. leb x (c .len-2 .result)) (c .len .ensures ∙ ap (λ (x : Route). length (bits (x .prefix))) (sym (c .index-routes-place .is)) ∙ sym e) ∙ ap (λ x. leb (length q) x) (c .len-2 .ensures)
-    ∙ by-length p q (key-short (c .args .key)) (prefix-short rs i) (sym n ∙ c .if-network .left ∙ c .network .ensures)
+    ∙ by-length 32 p q (key-short (c .args .key)) (prefix-short rs i) (sym n ∙ c .if-network .left ∙ c .network .ensures)

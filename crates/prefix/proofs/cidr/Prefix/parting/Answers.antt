@@ -7,7 +7,7 @@ use Rattle.prefix.specs.declared.cidr.Prefix.{Prefix}
 use Rattle.prefix.specs.Bits.{common}
 use Rattle.prefix.specs.Model.{bits}
 use Rattle.prefix.proofs.Words.{Common}
-use Rattle.prefix.proofs.Strings.{shares, parted-same, parted-longer, parted-shorter, parted-apart}
+use Rattle.prefix.proofs.Strings.{shares, parted-same, parted-below, parted-above, parted-apart}
 use Rattle.prefix.proofs.Meaning.{bits-length}
 use Rattle.prefix.proofs.cidr.Prefix.parting.Needs as need
 
@@ -31,7 +31,7 @@ pub returns-then-n-other : need.returns-then-n-other
 returns-then-n-other c =
     let p = c .args .self in
     let q = c .args .other in
-    parted-longer (bits p) (bits q) (c .common-n .result) _ _ (shared p q _ (c .common-n .ensures)) (c .if-n-other .taken ∙ sym (bits-length q)) (c .after-side .ensures)
+    parted-below (bits p) (bits q) (c .common-n .result) _ _ (shared p q _ (c .common-n .ensures)) (c .if-n-other .taken ∙ sym (bits-length q)) (c .after-side .ensures)
 
 pub after-side-requires-then-n-self-2 : need.after-side-requires-then-n-self-2
 after-side-requires-then-n-self-2 c κs = let w = within (c .args .self) (c .args .other) _ (c .common-n .ensures) in omega arith
@@ -40,7 +40,7 @@ pub returns-then-n-self-2 : need.returns-then-n-self-2
 returns-then-n-self-2 c =
     let p = c .args .self in
     let q = c .args .other in
-    parted-shorter (bits p) (bits q) (c .common-n .result) _ _ (shared p q _ (c .common-n .ensures)) (c .if-n-self-2 .taken ∙ sym (bits-length p)) (c .after-side-then-n-self-2 .ensures)
+    parted-above (bits p) (bits q) (c .common-n .result) _ _ (shared p q _ (c .common-n .ensures)) (c .if-n-self-2 .taken ∙ sym (bits-length p)) (c .after-side-then-n-self-2 .ensures)
 
 pub after-side-requires-2 : need.after-side-requires-2
 after-side-requires-2 c κs = let w = within (c .args .self) (c .args .other) _ (c .common-n .ensures) in omega arith
