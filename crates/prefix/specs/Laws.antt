@@ -5,9 +5,10 @@ use mathlib.Core.List.{List, [], _∷_, _++_}
 use Prim.Native.Nat.{ℕ, _-_, _^_, _<_, _≤_}
 use lib.Dec.{eqb, ltb}
 use lib.ListN.{length, take, replicate}
+use Rattle.std.specs.declared.cmp.Ordering.the-variants.{Less, Equal, Greater}
 use Rattle.prefix.specs.declared.cidr.Prefix.{Prefix}
 use Rattle.prefix.specs.Bits.{Bits, begins, same, common, before, bitsOf, number}
-use Rattle.prefix.specs.Model.{bits, canonical}
+use Rattle.prefix.specs.Model.{bits, canonical, compared}
 
 -- the order is by bits as a number of any width that holds both, and then by length
 abbrev pub ByNumber : Type 0
@@ -52,4 +53,11 @@ Examples =
     (before (true ∷ []) (true ∷ []) ≡ false) ×
     -- ten in four bits is 1010; 101 of four bits is ten too
     (bitsOf 4 10 ≡ true ∷ false ∷ true ∷ false ∷ []) ×
-    (number 4 (true ∷ false ∷ true ∷ []) ≡ 10)
+    (number 4 (true ∷ false ∷ true ∷ []) ≡ 10) ×
+    -- so ten and three are a prefix of four bits; ten and two leave a bit set after the length, and five is too long
+    (canonical 4 10 3 ≡ true) ×
+    (canonical 4 10 2 ≡ false) ×
+    (canonical 4 0 5 ≡ false) ×
+    (compared (true ∷ []) (true ∷ false ∷ []) ≡ Less) ×
+    (compared (true ∷ []) (true ∷ []) ≡ Equal) ×
+    (compared (true ∷ []) (false ∷ true ∷ []) ≡ Greater)

@@ -1,7 +1,7 @@
 ghost use mathlib.Core.Path.{_≡_};
 ghost use mathlib.Core.Bool.{true, false};
 ghost use mathlib.Core.List.{[], _∷_, _++_};
-ghost use Prim.Native.Nat.{_+_, _<_, _≤_};
+ghost use Prim.Native.Nat.{min};
 ghost use lib.ListN.{length, take};
 ghost use Rattle.std.specs.Finite.{nth};
 ghost use Rattle.std.specs.Options.{Cases as BySome};
@@ -25,14 +25,16 @@ impl Prefix {
 
     // The prefix of no bits, with which every address begins.
     pub fn empty() -> Prefix
-        ensures { λ r. ⌜ bits r ≡ [] ⌝ }
+        ensures value { λ r. ⌜ bits r ≡ [] ⌝ }
+        ensures long { λ r. ⌜ length (bits r) ≡ 0 ⌝ }
     {
         Prefix { network: 0, len: 0 }
     }
 
     // All the bits of an address.
     pub fn host(address: u32) -> Prefix
-        ensures { λ r. ⌜ bits r ≡ addressBits address ⌝ }
+        ensures value { λ r. ⌜ bits r ≡ addressBits address ⌝ }
+        ensures long { λ r. ⌜ length (bits r) ≡ 32 ⌝ }
     {
         Prefix {
             network: address,
@@ -66,7 +68,8 @@ impl Prefix {
 
     // Its first `len` bits; all where it has no more.
     pub fn cut(self, len: u8) -> Prefix
-        ensures { λ r. ⌜ bits r ≡ take len (bits self) ⌝ }
+        ensures value { λ r. ⌜ bits r ≡ take len (bits self) ⌝ }
+        ensures long { λ r. ⌜ length (bits r) ≡ min len (length (bits self)) ⌝ }
     {
         if len >= self.len {
             return self;

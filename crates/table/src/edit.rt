@@ -1,7 +1,9 @@
 ghost use mathlib.Core.Path.{_≡_};
+ghost use mathlib.Core.Bool.{cond};
 ghost use mathlib.Core.List.{[], map};
 ghost use lib.ListN.{length};
-ghost use Rattle.std.specs.Results.{Cases};
+ghost use Rattle.std.specs.Results.{isOk};
+ghost use Rattle.std.specs.Vec.{made};
 ghost use Rattle.prefix.specs.Model.{bits};
 ghost use Rattle.table.specs.Tables.{at, put, without};
 ghost use Rattle.table.specs.Routes.{entryOf};
@@ -51,7 +53,8 @@ impl Table {
     // Puts a route, in place of one with the same prefix, whose next hop is given back.
     // Where there is no memory for one more, the table is as it was.
     pub fn put(&mut self, route: Route) -> Result<Option<NextHop>, AllocError>
-        ensures { λ r. ⌜ Cases r (λ old. (old ≡ at (entries (now (self .entry))) (bits (route .prefix))) × (entries (now (self .exit)) ≡ put (entryOf route) (entries (now (self .entry))))) (λ _. entries (now (self .exit)) ≡ entries (now (self .entry))) ⌝ }
+        ensures value { λ r. ⌜ made r (λ old. old ≡ at (entries (now (self .entry))) (bits (route .prefix))) ⌝ }
+        ensures after { λ r. ⌜ entries (now (self .exit)) ≡ cond (isOk r) (put (entryOf route) (entries (now (self .entry)))) (entries (now (self .entry))) ⌝ }
     {
         match self.search(route.prefix) {
             Ok(i) => {
@@ -72,8 +75,8 @@ impl Table {
 
     // Takes away the route with this prefix, and gives back its next hop; none where there was none.
     pub fn remove(&mut self, prefix: Prefix) -> Option<NextHop>
-        ensures gone { λ r. ⌜ entries (now (self .exit)) ≡ without (bits prefix) (entries (now (self .entry))) ⌝ }
         ensures value { λ r. ⌜ r ≡ at (entries (now (self .entry))) (bits prefix) ⌝ }
+        ensures after { λ _. ⌜ entries (now (self .exit)) ≡ without (bits prefix) (entries (now (self .entry))) ⌝ }
     {
         match self.search(prefix) {
             Ok(i) => {

@@ -22,4 +22,4 @@ with-none (Some q) p r s h e c = c ∙ ap (λ (x : Bits). p ++ (s ∷ x)) e
 pub returns : need.returns
 returns c =
     with-none (c .join .result) (bits (c .args .self)) (bits (c .empty .result)) (c .args .side) (omega (arith, bits-length (c .args .self), c .args .self .short))
-    (c .empty .ensures) (c .join .ensures)
+    (c .empty .ensures .value) (c .join .ensures)

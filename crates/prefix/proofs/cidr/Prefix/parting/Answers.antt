@@ -55,4 +55,4 @@ returns c =
     let w = within p q _ (c .common-n .ensures) in
     let h : c .common-n .result < length (bits (c .args .self)) = omega (arith, bits-length p) in
     let k : c .common-n .result < length (bits (c .args .other)) = omega (arith, bits-length q) in
-    parted-apart (bits p) (bits q) _ (c .common-n .result) _ _ _ _ (shared p q _ (c .common-n .ensures)) h k (c .cut .ensures) (c .after-side-2 .ensures) (c .after .ensures)
+    parted-apart (bits p) (bits q) _ (c .common-n .result) _ _ _ _ (shared p q _ (c .common-n .ensures)) h k (c .cut .ensures .value) (c .after-side-2 .ensures) (c .after .ensures)

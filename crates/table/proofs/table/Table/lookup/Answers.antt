@@ -12,7 +12,7 @@ use Rattle.table.proofs.Steps.{starts, step-none, step-found, step-shorter}
 use Rattle.table.proofs.table.Table.lookup.Needs as need
 
 pub shorter-holds : need.shorter-holds
-shorter-holds c = starts (c .args .self .now) (addressBits (c .args .address)) (bits (c .host-host .result)) (c .host-host .ensures)
+shorter-holds c = starts (c .args .self .now) (addressBits (c .args .address)) (bits (c .host-host .result)) (c .host-host .ensures .value)
 
 pub returns-then-end-eq0 : need.returns-then-end-eq0
 returns-then-end-eq0 c =
@@ -31,7 +31,7 @@ returns-then-shared-len c =
     step-found t (addressBits (c .args .address)) (bits (c .shorter .key)) (c .rank-end .result) (c .shorter .inv)
     (ranked-at (vec-items (t .routes)) _ _ _ (c .deref-in-shorter .ensures .value) (c .rank-end .ensures)) (c .if-end-eq0 .left)
     (c .index-route .result .now) (c .common-shared .result) (c .index-route .ensures)
-    (c .common-shared .ensures ∙ ap (λ (b : Bits). common (bits (c .index-route .result .now .prefix)) b) (c .host-host .ensures))
+    (c .common-shared .ensures ∙ ap (λ (b : Bits). common (bits (c .index-route .result .now .prefix)) b) (c .host-host .ensures .value))
     (c .if-shared-len .taken ∙ c .len .ensures)
 
 -- the next turn's key
@@ -41,9 +41,9 @@ next c =
     step-shorter t (addressBits (c .args .address)) (bits (c .shorter .key)) (c .rank-end .result) (c .shorter .inv)
     (ranked-at (vec-items (t .routes)) _ _ _ (c .deref-in-shorter .ensures .value) (c .rank-end .ensures)) (c .if-end-eq0 .left)
     (c .index-route .result .now) (c .common-shared .result) (c .index-route .ensures)
-    (c .common-shared .ensures ∙ ap (λ (b : Bits). common (bits (c .index-route .result .now .prefix)) b) (c .host-host .ensures))
+    (c .common-shared .ensures ∙ ap (λ (b : Bits). common (bits (c .index-route .result .now .prefix)) b) (c .host-host .ensures .value))
     (λ e. c .if-shared-len .left (e ∙ sym (c .len .ensures)))
-    (bits (c .cut-key .result)) (c .cut-key .ensures ∙ ap (take (c .common-shared .result)) (c .host-host .ensures))
+    (bits (c .cut-key .result)) (c .cut-key .ensures .value ∙ ap (take (c .common-shared .result)) (c .host-host .ensures .value))
 
 pub shorter-again : need.shorter-again
 shorter-again c = next c .0

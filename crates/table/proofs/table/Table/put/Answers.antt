@@ -55,16 +55,18 @@ pub returns-in-Ok : need.returns-in-Ok
 returns-in-Ok c =
     let t = c .args .self .now in
     let i = c .in-Ok .i in
-    let s = standing (entries t) (bits (c .args .route .prefix)) i (t .ordered) (c .in-Ok .ensures tt) in (
-      sym (s .gives ∙ ap Some (hop-at (vec-items (t .routes)) i (c .index .result .now) (within t _ _ (c .in-Ok .ensures tt) .in-items) (c .index .ensures))),
-      over-is t (c .args .route) i (c .in-Ok .ensures tt),
-    )
+    let s = standing (entries t) (bits (c .args .route .prefix)) i (t .ordered) (c .in-Ok .ensures tt) in
+    record {
+      value = sym (s .gives ∙ ap Some (hop-at (vec-items (t .routes)) i (c .index .result .now) (within t _ _ (c .in-Ok .ensures tt) .in-items) (c .index .ensures)));
+      after = over-is t (c .args .route) i (c .in-Ok .ensures tt);
+    }
 
 pub returns-else-is-err : need.returns-else-is-err
 returns-else-is-err c =
     let t = c .args .self .now in
     let i = c .in-Err .i in
-    let r = c .insert-in-Err .ensures .items ∙ cond-true _ (inserted (vec-items (t .routes)) i (c .args .route)) (vec-items (t .routes)) (c .if-is-err .ensures tt .test) in (
-      sym (lacking (entries t) (bits (c .args .route .prefix)) i (c .in-Err .ensures tt) .none),
-      ap (map entryOf) r ∙ between-is t (c .args .route) i (c .in-Err .ensures tt),
-    )
+    let r = c .insert-in-Err .ensures .items ∙ cond-true _ (inserted (vec-items (t .routes)) i (c .args .route)) (vec-items (t .routes)) (c .if-is-err .ensures tt .test) in
+    record {
+      value = sym (lacking (entries t) (bits (c .args .route .prefix)) i (c .in-Err .ensures tt) .none);
+      after = ap (map entryOf) r ∙ between-is t (c .args .route) i (c .in-Err .ensures tt);
+    }

@@ -26,11 +26,11 @@ returns-in-Ok c =
     let i = c .in-Ok .i in
     let s = standing (entries t) (bits (c .args .prefix)) i (t .ordered) (c .in-Ok .ensures tt) in
     record {
-      gone = ap (map entryOf) (c .remove-in-Ok .ensures .items) ∙ gone-is t _ _ (c .in-Ok .ensures tt);
+      after = ap (map entryOf) (c .remove-in-Ok .ensures .items) ∙ gone-is t _ _ (c .in-Ok .ensures tt);
       value = sym (s .gives ∙ ap Some (hop-at (vec-items (t .routes)) i (c .remove-in-Ok .result) (within t _ _ (c .in-Ok .ensures tt) .in-items) (c .remove-in-Ok .ensures .value)));
     }
 
 pub returns-in-Err : need.returns-in-Err
 returns-in-Err c =
     let l = lacking (entries (c .args .self .now)) (bits (c .args .prefix)) _ (c .in-Err .ensures tt) in
-    record { gone = sym (l .leaves); value = sym (l .none) }
+    record { value = sym (l .none); after = sym (l .leaves) }
