@@ -138,6 +138,25 @@ fn a_put_replaces_and_a_removal_tells(rt: LibcRuntime) -> Result<(), Fail> {
 }
 
 #[test]
+fn reserved_memory_is_room_for_lines(rt: LibcRuntime) -> Result<(), Fail> {
+    let mut table = Table::new(rt.alloc());
+    table.put(route(0, 0, 1))?;
+    table.reserve(40)?;
+    check_eq(table.len(), 1)?;
+    check_eq(
+        table.lookup(7),
+        Some(Match {
+            len: 0,
+            next_hop: 1,
+        }),
+    )?;
+    // more than can ever be had
+    check(table.reserve(usize::MAX).is_err())?;
+    check_eq(table.len(), 1)?;
+    check_eq(table.next_hop(7), 1)
+}
+
+#[test]
 fn lines_stand_in_their_order(rt: LibcRuntime) -> Result<(), Fail> {
     let mut table = Table::new(rt.alloc());
     let rising = [
@@ -194,7 +213,7 @@ fn crowded(heap: Global) -> Result<Table, AllocError> {
     for _ in 0..400 {
         seed = next(seed);
         let address = ((seed >> 32) & 0xf00f_000f) as u32;
-        table.put(route(address, (seed >> 20 & 31) as u8, (seed >> 12 & 255) as u8))?;
+        table.put(route(address, ((seed >> 20) % 33) as u8, (seed >> 12 & 255) as u8))?;
     }
     Ok(table)
 }

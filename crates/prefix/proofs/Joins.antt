@@ -1,13 +1,13 @@
 -- Numbers put together and taken apart, as strings of bits, at any width. Assumes nothing.
-use mathlib.Core.Path.{_≡_, refl, sym, ap, subst, _∙_}
+use mathlib.Core.Path.{_≡_, refl, sym, ap, _∙_}
 use mathlib.Core.Bool.{Bool, true, false}
-use mathlib.Core.List.{List, [], _∷_, _++_, append-assoc}
-use Prim.Native.Nat.{ℕ, zero, suc, _+_, _-_, _*_, _/_, _%_, _^_, _<_, _≤_, min}
+use mathlib.Core.List.{[], _∷_, _++_}
+use Prim.Native.Nat.{ℕ, zero, suc, _+_, _-_, _*_, _/_, _%_, _^_, _<_, _≤_}
 use native.Mathlib.Nat.{pow-suc, mul-comm}
 use native.Mathlib.Omega.{arith}
 use mir.Val.{boolByte}
 use lib.Dec.{eqb, leb}
-use lib.ListN.{length, take, drop, getD, replicate, length-drop, replicate-append-replicate}
+use lib.ListN.{length, take, drop, replicate, length-drop, replicate-append-replicate}
 use Rattle.std.proofs.shelf.Bits.{pow-pos, shr-split, shr-below, mul-add-lt, pow-add}
 use Rattle.std.proofs.shelf.Lists.{take-take, drop-drop, drop-at, drop-take, take-append-le, drop-append-le, length-take-le, take-replicate}
 use Rattle.std.proofs.shelf.Tests.{and-parts, and-from, leb-true, le-leb, eqb-true, eq-eqb}

@@ -1,9 +1,8 @@
 -- The code's prefixes as strings of bits. Assumes nothing.
-use mathlib.Core.Path.{_≡_, refl, sym, ap, subst, _∙_}
-use mathlib.Core.Bool.{Bool, true, false, _&&_, _||_}
-use mathlib.Core.Logic.{_⊎_, inl, inr}
-use mathlib.Core.List.{List, [], _∷_, _++_}
-use Prim.Native.Nat.{ℕ, zero, suc, _+_, _-_, _*_, _/_, _%_, _^_, _<_, _≤_}
+use mathlib.Core.Path.{_≡_, sym, ap, _∙_}
+use mathlib.Core.Bool.{_&&_, _||_}
+use mathlib.Core.Logic.{inl, inr}
+use Prim.Native.Nat.{ℕ, _+_, _-_, _*_, _/_, _%_, _^_, _≤_}
 use native.Mathlib.Omega.{arith}
 use lib.Dec.{eqb, ltb}
 use lib.ListN.{length, take}
@@ -11,8 +10,8 @@ use Rattle.std.proofs.shelf.Bits.{shl-shr, mod-low, pow-pos}
 use Rattle.std.proofs.shelf.Lists.{length-take-le}
 use Rattle.std.proofs.shelf.Tests.{cases-bool, and-parts, and-from, eqb-true, eq-eqb, both-ways}
 use Rattle.prefix.specs.declared.cidr.Prefix.{Prefix}
-use Rattle.prefix.specs.Bits.{Bits, bitsOf, number, before, same}
-use Rattle.prefix.specs.Model.{bits, addressBits}
+use Rattle.prefix.specs.Bits.{bitsOf, number, before, same}
+use Rattle.prefix.specs.Model.{bits}
 use Rattle.prefix.specs.Laws.{Faithful}
 use Rattle.prefix.proofs.Words.{length-bits, bits-front}
 use Rattle.prefix.proofs.Numbers.{number-clean, by-number}

@@ -1,19 +1,18 @@
 -- Prefixes as numbers, and their order. Assumes nothing.
-use mathlib.Core.Path.{_≡_, refl, sym, ap, subst, _∙_}
-use mathlib.Core.Bool.{Bool, true, false, _&&_, _||_}
-use mathlib.Core.List.{List, [], _∷_, _++_}
+use mathlib.Core.Path.{_≡_, refl, sym, ap, _∙_}
+use mathlib.Core.Bool.{true, false}
+use mathlib.Core.List.{[], _∷_, _++_}
 use mathlib.Core.Logic.{_⊎_, inl, inr}
 use Prim.Native.Nat.{ℕ, zero, suc, _+_, _-_, _*_, _/_, _%_, _^_, _<_, _≤_}
-use native.Mathlib.Nat.{pow-suc, add-comm, div-eq-of-lt, mod-eq-of-lt}
+use native.Mathlib.Nat.{pow-suc, mod-eq-of-lt}
 use native.Mathlib.Omega.{arith}
-use lib.Dec.{eqb, ltb}
-use lib.ListN.{length, take, drop, replicate, take-append-drop}
+use lib.Dec.{eqb}
+use lib.ListN.{length, take, replicate, take-append-drop}
 use Rattle.std.proofs.shelf.Bits.{pow-pos, mod-pow-add, mod-below}
-use Rattle.std.proofs.shelf.Tests.{eqb-true, eqb-false, cases-bool}
 use Rattle.std.proofs.shelf.Ways.{tells}
-use Rattle.prefix.specs.Bits.{Bits, bitsOf, odd, number, before}
+use Rattle.prefix.specs.Bits.{Bits, bitsOf, number, before}
 use Rattle.prefix.specs.Laws.{ByNumber, Numbered}
-use Rattle.prefix.proofs.Words.{length-bits, bits-low, bits-joined, bits-zero, bits-back}
+use Rattle.prefix.proofs.Words.{bits-low, bits-joined, bits-zero, bits-back}
 
 pub number-below : (w : ℕ) (p : Bits) → number w p < 2 ^ w
 unfolding number

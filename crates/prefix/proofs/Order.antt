@@ -1,13 +1,13 @@
 -- The order of prefixes, and where the beginnings of an address stand in it. Assumes nothing.
-use mathlib.Core.Path.{_≡_, refl, sym, ap, _∙_}
-use mathlib.Core.Bool.{Bool, true, false, cond, not, _&&_}
-use mathlib.Core.List.{List, [], _∷_}
-use mathlib.Core.Logic.{_⊎_, inl, inr}
-use Prim.Native.Nat.{ℕ, zero, suc, _+_, _<_, _≤_}
+use mathlib.Core.Path.{_≡_, refl, ap}
+use mathlib.Core.Bool.{true, false}
+use mathlib.Core.List.{[], _∷_}
+use mathlib.Core.Logic.{inl, inr}
+use Prim.Native.Nat.{ℕ, zero, suc, _<_, _≤_}
 use native.Mathlib.Omega.{arith}
 use lib.ListN.{length, take}
-use Rattle.std.proofs.shelf.Tests.{cases-bool, both-ways, cond-both}
-use Rattle.prefix.specs.Bits.{Bits, sameBit, begins, same, common, before}
+use Rattle.std.proofs.shelf.Tests.{cases-bool, both-ways}
+use Rattle.prefix.specs.Bits.{Bits, begins, same, common, before}
 use Rattle.prefix.specs.Laws.{Ordered}
 use Rattle.prefix.proofs.Strings.{same-eq, same-refl}
 

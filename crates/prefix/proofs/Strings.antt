@@ -1,15 +1,14 @@
 -- Strings of bits as lists. Assumes nothing.
-use mathlib.Core.Path.{_≡_, refl, sym, ap, ap₂, subst, _∙_}
+use mathlib.Core.Path.{_≡_, refl, sym, ap, ap₂, _∙_}
 use mathlib.Core.Bool.{Bool, true, false, cond, not, _&&_}
-use mathlib.Core.List.{List, [], _∷_, _++_}
-use mathlib.Core.Logic.{_⊎_, inl, inr}
+use mathlib.Core.List.{[], _∷_, _++_}
 use Prim.Native.Nat.{ℕ, zero, suc, _+_, _-_, _<_, _≤_, min}
 use native.Mathlib.Omega.{arith}
-use lib.Dec.{eqb, leb}
+use lib.Dec.{leb}
 use native.Mathlib.Nat.{sub-self}
 use lib.ListN.{length, take, drop, getD, take-append-drop}
 use Rattle.std.proofs.shelf.Lists.{take-all, getD-append-right, length-take-le, drop-more}
-use Rattle.std.proofs.shelf.Tests.{cond-both, cases-bool, and-parts}
+use Rattle.std.proofs.shelf.Tests.{cond-both, and-parts}
 use Rattle.std.proofs.shelf.Ways.{tells}
 use Rattle.prefix.specs.Bits.{Bits, sameBit, begins, same, common}
 use Rattle.prefix.proofs.Words.{Common}

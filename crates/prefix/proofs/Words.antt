@@ -1,16 +1,16 @@
 -- Strings of bits and the numbers that they are digits of, at any width. Assumes nothing.
-use mathlib.Core.Path.{_≡_, refl, sym, ap, subst, _∙_}
-use mathlib.Core.Bool.{Bool, true, false, not}
-use mathlib.Core.List.{List, [], _∷_, _++_, append-assoc}
+use mathlib.Core.Path.{_≡_, refl, sym, ap, _∙_}
+use mathlib.Core.Bool.{Bool, false, not}
+use mathlib.Core.List.{_∷_, _++_}
 use Prim.Native.Nat.{ℕ, zero, suc, _+_, _-_, _*_, _/_, _%_, _^_, _<_, _≤_}
-use native.Mathlib.Nat.{suc-add, add-suc, add-comm, zero-add, add-zero, pow-suc, div-one, mul-comm, sub-self, div-eq-of-lt, mul-one, mod-eq-of-lt}
+use native.Mathlib.Nat.{suc-add, add-comm, zero-add, pow-suc, sub-self, div-eq-of-lt}
 use native.Mathlib.Numerals.{add-one}
 use native.Mathlib.Omega.{arith}
 use lib.Dec.{eqb}
 use lib.ListN.{length, take, drop, getD, replicate}
 use lib.Bits.{bitXor, differ, xor-assoc, xor-self, xor-zero-l, xor-zero-r, xor-step, xor-shr, xor-lt}
 use lib.Count.{leadingZeros, leading-length}
-use Rattle.std.proofs.shelf.Bits.{shr-shr, mod-pow-add, field-of, mod-low, shr-high, shl-shr, shr-split, pow-pos, div-below, le-div, mod-below}
+use Rattle.std.proofs.shelf.Bits.{shr-shr, mod-pow-add, field-of, mod-low, shr-high, pow-pos, div-below, le-div, mod-below}
 use Rattle.std.proofs.shelf.Lists.{take-at, drop-at, getD-append-right}
 use Rattle.prefix.specs.Bits.{Bits, bitsOf, odd}
 

@@ -1,12 +1,18 @@
 -- Strings of bits: addresses, and the prefixes that addresses begin with, for any width. Assumes nothing.
+use mathlib.Core.Path.{_≡_}
 use mathlib.Core.Bool.{Bool, true, false, cond, _&&_, not}
 use mathlib.Core.List.{List, [], _∷_}
 use Prim.Native.Nat.{ℕ, zero, suc, _+_, _/_, _%_, _^_}
 use lib.Dec.{eqb}
+use lib.ListN.{length}
 
 -- an address or a prefix: its bits, the first (highest) one first
 abbrev pub Bits : Type 0
 Bits = List Bool
+
+-- a string of bits is an address of w bits
+abbrev pub Address : ℕ → Bits → Type 0
+Address w a = length a ≡ w
 
 abbrev pub sameBit : Bool → Bool → Bool
 sameBit true b = b

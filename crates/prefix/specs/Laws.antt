@@ -1,7 +1,7 @@
 -- What holds of bits and prefixes, each statement a theorem. Assumes nothing.
 use mathlib.Core.Path.{_≡_}
-use mathlib.Core.Bool.{Bool, true, false, _&&_, _||_}
-use mathlib.Core.List.{List, [], _∷_, _++_}
+use mathlib.Core.Bool.{true, false, _&&_, _||_}
+use mathlib.Core.List.{[], _∷_, _++_}
 use Prim.Native.Nat.{ℕ, _-_, _^_, _<_, _≤_}
 use lib.Dec.{eqb, ltb}
 use lib.ListN.{length, take, replicate}
@@ -36,12 +36,13 @@ Ordered = (p q r : Bits) →
 abbrev pub Faithful : Type 0
 Faithful = (p q : Prefix) → bits p ≡ bits q → (p .network ≡ q .network) × (p .len ≡ q .len)
 
--- examples: 10 begins 101 and not 11, and nothing longer begins it; the empty prefix begins all
+-- examples: 101 begins with 10, and 111 does not; all begin with the empty prefix, and nothing with a longer one than itself
 abbrev pub Examples : Type 0
 Examples =
     (begins (true ∷ false ∷ []) (true ∷ false ∷ true ∷ []) ≡ true) ×
     (begins (true ∷ false ∷ []) (true ∷ true ∷ true ∷ []) ≡ false) ×
     (begins [] [] ≡ true) ×
+    (begins [] (true ∷ []) ≡ true) ×
     (begins (true ∷ []) [] ≡ false) ×
     (same (true ∷ []) (true ∷ false ∷ []) ≡ false) ×
     (common (true ∷ false ∷ true ∷ []) (true ∷ false ∷ false ∷ true ∷ []) ≡ 2) ×

@@ -1,6 +1,6 @@
 ghost use mathlib.Core.Path.{_≡_};
 ghost use mathlib.Core.Bool.{true, false};
-ghost use mathlib.Core.List.{[], _∷_, _++_};
+ghost use mathlib.Core.List.{[]};
 ghost use Prim.Native.Nat.{min};
 ghost use lib.ListN.{length, take};
 ghost use Rattle.std.specs.Finite.{nth};
@@ -9,7 +9,6 @@ ghost use Rattle.prefix.specs.Bits.{begins, common, number};
 ghost use Rattle.prefix.specs.Model.{addressBits, bits, canonical};
 use crate::cidr::Prefix;
 use crate::shift::first_bits;
-use crate::shift::shl;
 use crate::shift::shr;
 
 impl Prefix {

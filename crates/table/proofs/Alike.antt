@@ -1,25 +1,23 @@
 -- Tables with the same lines, in any order. Assumes nothing.
 use mathlib.Core.Path.{_≡_, refl, sym, ap, ap₂, subst, _∙_}
-use mathlib.Core.Bool.{Bool, true, false, cond, _&&_, _||_, not}
-use mathlib.Core.List.{List, [], _∷_}
+use mathlib.Core.Bool.{Bool, true, false, _&&_, _||_}
+use mathlib.Core.List.{[], _∷_}
 use mathlib.Core.Logic.{_⊎_, inl, inr}
-use Prim.Native.Nat.{ℕ, zero, suc, _+_, _<_, _≤_}
+use Prim.Native.Nat.{ℕ, zero, suc, _+_, _≤_}
 use native.Mathlib.Omega.{arith}
 use lib.Dec.{eqb, ltb}
 use lib.ListN.{length}
 use Rattle.std.specs.declared.option.Option.{Option}
 use Rattle.std.specs.declared.option.Option.the-variants.{Some, None}
-use Rattle.std.specs.Slices.{Shuffled}
 use Rattle.std.specs.shelf.Lists.{sumBy}
 use Rattle.std.proofs.shelf.Sorted.{sumBy-shuffled}
 use Rattle.std.proofs.shelf.Sums.{sumBy-cons}
-use Rattle.std.proofs.shelf.Tests.{cond-both, cond-true, cond-false, cases-bool, and-parts, and-from, or-cases, or-left, or-right, or-from, or-parts, eqb-true, eq-eqb, both-ways}
+use Rattle.std.proofs.shelf.Tests.{cond-true, cond-false, cases-bool, and-parts, and-from, or-cases, or-left, or-right, eqb-true, eq-eqb, both-ways}
 use Rattle.std.proofs.shelf.Ways.{tells}
 use Rattle.prefix.specs.Bits.{Bits, same, before}
 use Rattle.prefix.proofs.Strings.{same-eq, same-refl}
 use Rattle.prefix.proofs.Order.{before-not}
-use Rattle.table.specs.declared.lookups.Match.{Match}
-use Rattle.table.specs.Tables.{Entry, Entries, find, hopOf, has, distinct, pick, sits, seen, top, leads, rising, holds}
+use Rattle.table.specs.Tables.{Entry, Entries, find, hopOf, has, distinct, pick, sits, seen, top, leads, holds}
 use Rattle.table.specs.Laws.{OrderFree, SameLines, LinesDecide, RisingOnce}
 use Rattle.table.proofs.Picks.{Single, sits-single}
 use Rattle.table.proofs.Tops.{topmost}

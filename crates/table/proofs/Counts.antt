@@ -1,17 +1,16 @@
 -- How many lines a table has after a put or a drop, and that it stays sound. Assumes nothing.
 use mathlib.Core.Path.{_≡_, refl, sym, ap, _∙_}
-use mathlib.Core.Bool.{Bool, true, false, cond, _&&_, _||_, not}
-use mathlib.Core.List.{List, [], _∷_}
-use mathlib.Core.Logic.{_⊎_, inl, inr}
-use Prim.Native.Nat.{ℕ, zero, suc, _+_, _<_, _≤_}
-use native.Mathlib.Omega.{arith}
+use mathlib.Core.Bool.{true, false, cond, _&&_, not}
+use mathlib.Core.List.{[], _∷_}
+use mathlib.Core.Logic.{inl, inr}
+use Prim.Native.Nat.{ℕ, suc}
 use lib.Dec.{leb}
 use lib.ListN.{length}
-use Rattle.std.proofs.shelf.Tests.{cond-both, cases-bool, and-parts, and-from, or-parts, or-from, or-left, not-true, not-from-false, le-leb, both-ways}
+use Rattle.std.proofs.shelf.Tests.{cond-both, cases-bool, and-parts, and-from, or-parts, or-from, not-true, not-from-false, le-leb}
 use Rattle.prefix.specs.Bits.{Bits, same, before}
 use Rattle.prefix.proofs.Strings.{same-eq}
 use Rattle.prefix.proofs.Order.{differ-turn}
-use Rattle.table.specs.Tables.{Entry, Entries, has, distinct, fits, sound, without, insert, put}
+use Rattle.table.specs.Tables.{Entry, Entries, has, distinct, fits, without, insert}
 use Rattle.table.specs.Laws.{CountPut, CountWithout, StaysSound}
 use Rattle.table.proofs.Picks.{has-without, has-fewer, without-none}
 

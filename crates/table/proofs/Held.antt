@@ -5,7 +5,7 @@ use mathlib.Core.List.{List, [], _∷_, map}
 use Prim.Native.Nat.{ℕ, _-_, _<_, _≤_}
 use native.Mathlib.Omega.{arith}
 use lib.ListN.{length, set}
-use Rattle.std.specs.Of.Vec.{vec-items, vec-len}
+use Rattle.std.specs.Of.Vec.{vec-cap, vec-items, vec-len}
 use Rattle.std.specs.Holes.{inserted, removed}
 use Rattle.std.proofs.shelf.Lists.{length-map, map-set}
 use Rattle.std.proofs.shelf.Tests.{and-from, le-leb}
@@ -16,7 +16,7 @@ use Rattle.table.specs.declared.table.Table.{Table}
 use Rattle.table.specs.Tables.{Entries, fits, put, without, rising}
 use Rattle.table.specs.Routes.{entryOf, networkOf}
 use Rattle.table.specs.Search.{Ranked, Stands, Missing}
-use Rattle.table.specs.Model.{entries, AllSound}
+use Rattle.table.specs.Model.{entries, room, AllSound}
 use Rattle.table.proofs.Rising.{rising-distinct, rising-put, rising-without}
 use Rattle.table.proofs.Places.{standing, lacking, key-short, map-inserted, map-removed, networks-stay}
 
@@ -54,6 +54,14 @@ upto t p i s =
 -- the last of the routes that come no later than a key
 pub last-within : (t : Table) (p : Bits) (r : ℕ) → Ranked (entries t) p r → (r ≡ 0 → ⊥) → (r - 1 < vec-len (t .routes)) × (r - 1 < length (vec-items (t .routes)))
 last-within t p r k n = let l = long t in (omega (arith, k .within, l .0), omega (arith, k .within, l .2))
+
+-- a table that holds the same lines lacks the same prefix
+pub missing-at : (t u : Table) (p : Bits) (i : ℕ) → entries u ≡ entries t → Missing (entries t) p i → Missing (entries u) p i
+missing-at t u p i e m = let P : Entries → Type 0 = λ x. Missing x p i in subst P (sym e) m
+
+-- room for one more line is room in both vectors
+pub has-room : (t : Table) → 1 ≤ room t → (vec-len (t .routes) < vec-cap (t .routes)) × (vec-len (t .networks) < vec-cap (t .networks))
+has-room t h = (omega arith, omega arith)
 
 -- what a table's vectors must satisfy
 pub record Sound (rs : List Route) (ns : List ℕ) : Type 0 where

@@ -1,9 +1,9 @@
 -- The search for the longest line with which an address begins. Assumes nothing.
-use mathlib.Core.Path.{_≡_, refl, sym, ap, subst, _∙_}
-use mathlib.Core.Bool.{Bool, true, false, cond}
-use mathlib.Core.List.{List, [], _∷_}
+use mathlib.Core.Path.{_≡_, refl, sym, ap, _∙_}
+use mathlib.Core.Bool.{true, false}
+use mathlib.Core.List.{[], _∷_}
 use mathlib.Core.Logic.{_⊎_, inl, inr}
-use Prim.Native.Nat.{ℕ, zero, suc, _+_, _-_, _<_, _≤_}
+use Prim.Native.Nat.{ℕ, zero, suc, _-_, _<_, _≤_}
 use native.Mathlib.Omega.{arith}
 use lib.ListN.{length, take}
 use Rattle.std.specs.declared.option.Option.{Option}
@@ -13,7 +13,7 @@ use Rattle.prefix.specs.Bits.{Bits, begins, same, common, before}
 use Rattle.prefix.proofs.Strings.{same-eq}
 use Rattle.prefix.proofs.Order.{before-trans, before-differ, differ-turn, begins-rise, begins-within, begins-is, begins-common, common-begins, parts-below, parts-before}
 use Rattle.table.specs.declared.lookups.Match.{Match}
-use Rattle.table.specs.Tables.{Entry, Entries, find, pick, at, seen, top, rising}
+use Rattle.table.specs.Tables.{Entries, find, pick, at, seen, rising}
 use Rattle.table.specs.Search.{entryAt, prefixAt, Ranked}
 use Rattle.table.proofs.Picks.{seen-at}
 use Rattle.table.proofs.Tops.{Highest, seen-far, highest-top, topmost}

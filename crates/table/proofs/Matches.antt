@@ -1,9 +1,8 @@
 -- A look-up finds the longest line with which the address begins. Assumes nothing.
-use mathlib.Core.Path.{_≡_, refl, sym, ap, ap₂, _∙_}
-use mathlib.Core.Bool.{Bool, true, false, _&&_}
-use mathlib.Core.List.{List, [], _∷_}
-use mathlib.Core.Logic.{_⊎_, inl, inr}
-use Prim.Native.Nat.{ℕ, _<_, _≤_}
+use mathlib.Core.Path.{_≡_, refl, sym, ap₂, _∙_}
+use mathlib.Core.Bool.{true, false}
+use mathlib.Core.Logic.{inl, inr}
+use Prim.Native.Nat.{ℕ}
 use native.Mathlib.Omega.{arith}
 use lib.Dec.{eqb}
 use lib.ListN.{length}
@@ -16,7 +15,7 @@ use Rattle.table.specs.Tables.{Entry, Entries, matched, find, distinct, holds,
 use Rattle.table.specs.Laws.{Longest, LongestLine}
 use Rattle.table.proofs.Picks.{sits-single}
 use Rattle.table.proofs.Tops.{Highest, seen-far, find-highest, highest-top, topmost}
-use Rattle.table.proofs.Alike.{Picked, held-picks, picked}
+use Rattle.table.proofs.Alike.{held-picks, picked}
 
 some-none : (x : ℕ) → _≡_ {A = Option ℕ} (Some x) None → ⊥
 some-none x e = let z : _≡_ {A = ℕ} 0 1 = cc in omega arith

@@ -1,20 +1,19 @@
 -- What is picked from a table after a put or a drop: what an address sees at a length, and what stands at a prefix. Assumes nothing.
 use mathlib.Core.Path.{_≡_, refl, sym, ap, _∙_}
-use mathlib.Core.Bool.{Bool, true, false, cond, _&&_, _||_, not}
-use mathlib.Core.List.{List, [], _∷_}
-use mathlib.Core.Logic.{_⊎_, inl, inr}
-use Prim.Native.Nat.{ℕ, zero, suc, _+_, _<_, _≤_}
+use mathlib.Core.Bool.{Bool, true, false, cond, _&&_}
+use mathlib.Core.List.{[], _∷_}
+use Prim.Native.Nat.{ℕ, zero, suc, _≤_}
 use native.Mathlib.Omega.{arith}
 use lib.Dec.{eqb}
 use lib.ListN.{length, take}
 use Rattle.std.specs.declared.option.Option.{Option}
 use Rattle.std.specs.declared.option.Option.the-variants.{Some, None}
-use Rattle.std.proofs.shelf.Tests.{cond-both, cond-true, cond-false, cases-bool, and-parts, and-from, or-parts, or-from, eqb-true, both-ways}
+use Rattle.std.proofs.shelf.Tests.{cond-both, and-parts, or-parts, or-from, eqb-true, both-ways}
 use Rattle.std.proofs.shelf.Ways.{tells}
 use Rattle.prefix.specs.Bits.{Bits, sameBit, begins, same, before}
 use Rattle.prefix.proofs.Strings.{same-eq, same-refl}
-use Rattle.prefix.proofs.Order.{begins-is, differ-turn}
-use Rattle.table.specs.Tables.{Entry, Entries, has, pick, at, without, insert, put, sits, seen}
+use Rattle.prefix.proofs.Order.{begins-is}
+use Rattle.table.specs.Tables.{Entry, Entries, has, pick, without, insert, put, sits}
 use Rattle.table.specs.Laws.{SeenAt, SeenPut, SeenWithout, AtPut, AtWithout}
 
 -- prefixes and what is removed

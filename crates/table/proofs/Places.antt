@@ -1,18 +1,17 @@
 -- Rising tables by places: where a prefix stands or would stand, and what puts and drops do there. Assumes nothing.
 use mathlib.Core.Path.{_≡_, refl, sym, ap, subst, _∙_}
-use mathlib.Core.Bool.{Bool, true, false, cond, _&&_, _||_, not}
+use mathlib.Core.Bool.{true, false, cond, not}
 use mathlib.Core.List.{List, [], _∷_, _++_, map}
-use mathlib.Core.Logic.{_⊎_, inl, inr}
+use mathlib.Core.Logic.{inl, inr}
 use Prim.Native.Nat.{ℕ, zero, suc, _+_, _-_, _<_, _≤_}
 use native.Mathlib.Omega.{arith}
-use lib.Dec.{eqb, ltb, leb}
+use lib.Dec.{ltb, leb}
 use lib.ListN.{length, getD, set, take, drop}
-use Rattle.std.specs.declared.option.Option.{Option}
 use Rattle.std.specs.declared.option.Option.the-variants.{Some, None}
 use Rattle.std.specs.declared.cmp.Ordering.the-variants.{Less, Equal, Greater}
 use Rattle.std.specs.Holes.{inserted, removed}
 use Rattle.std.proofs.shelf.Lists.{getD-map, length-map, map-append, map-set, set-getD, take-map, drop-map}
-use Rattle.std.proofs.shelf.Tests.{cond-true, cond-false, cases-bool, cases-lt, cases-eq, both-ways, or-from}
+use Rattle.std.proofs.shelf.Tests.{cond-true, cond-false, cases-bool, cases-lt, both-ways, or-from}
 use Rattle.std.proofs.shelf.Ways.{tells}
 use Rattle.prefix.specs.Bits.{Bits, same, before, number}
 use Rattle.prefix.specs.Model.{bits, compared}
@@ -241,11 +240,6 @@ module _ {X : Type 0} (f : Route → X) where
   pub map-removed : (rs : List Route) (i : ℕ) → map f (removed rs i) ≡ removed (map f rs) i
   map-removed rs i =
       map-append f (take i rs) (drop (suc i) rs) ∙ ap (λ (xs : List X). xs ++ map f (drop (suc i) rs)) (sym (take-map f i rs)) ∙ ap (λ (xs : List X). take i (map f rs) ++ xs) (sym (drop-map f (suc i) rs))
-
-pub removed-inserted : {X : Type 0} (xs : List X) (i : ℕ) (x : X) → i ≤ length xs → removed (inserted xs i x) i ≡ xs
-removed-inserted xs zero x h = refl
-removed-inserted [] (suc i) x h = absurd (omega arith)
-removed-inserted (y ∷ xs) (suc i) x h = ap (λ zs. y ∷ zs) (removed-inserted xs i x (omega arith))
 
 -- the networks of the routes stay where a route is put over another of the same prefix
 pub networks-stay : (rs : List Route) (i : ℕ) (r : Route) → Stands (map entryOf rs) (bits (r .prefix)) i → map networkOf (set rs i r) ≡ map networkOf rs

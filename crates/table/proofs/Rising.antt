@@ -1,10 +1,7 @@
 -- Lines in their order: puts and drops keep it, and no two of them have the same prefix. Assumes nothing.
-use mathlib.Core.Path.{_≡_, refl, sym, ap, _∙_}
-use mathlib.Core.Bool.{Bool, true, false, cond, _&&_, _||_, not}
-use mathlib.Core.List.{List, [], _∷_}
-use Prim.Native.Nat.{ℕ, zero, suc, _+_, _<_, _≤_}
-use native.Mathlib.Omega.{arith}
-use lib.ListN.{length, getD}
+use mathlib.Core.Path.{_≡_, refl}
+use mathlib.Core.Bool.{true, false}
+use mathlib.Core.List.{[], _∷_}
 use Rattle.std.proofs.shelf.Tests.{cond-both, and-parts, and-from, or-parts, or-from}
 use Rattle.prefix.specs.Bits.{Bits, same, before}
 use Rattle.prefix.proofs.Order.{before-trans, before-differ, before-other}

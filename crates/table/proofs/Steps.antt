@@ -1,20 +1,16 @@
 -- One step of the look-up in a table of the code. Assumes nothing.
-use mathlib.Core.Path.{_≡_, refl, sym, ap, ap₂, subst, _∙_}
-use mathlib.Core.List.{List, [], _∷_}
-use Prim.Native.Nat.{ℕ, _-_, _<_, _≤_}
+use mathlib.Core.Path.{_≡_, sym, ap, ap₂, subst, _∙_}
+use Prim.Native.Nat.{ℕ, _-_, _<_}
 use native.Mathlib.Omega.{arith}
 use lib.ListN.{length, take, getD}
-use Rattle.std.specs.declared.option.Option.{Option}
 use Rattle.std.specs.declared.option.Option.the-variants.{Some, None}
 use Rattle.std.specs.Of.Vec.{vec-items}
 use Rattle.std.proofs.shelf.Lists.{take-all, length-take-le}
 use Rattle.prefix.specs.Bits.{Bits, common}
 use Rattle.prefix.specs.Model.{bits}
-use Rattle.table.specs.declared.lookups.Match.{Match}
 use Rattle.table.specs.declared.route.Route.{Route}
 use Rattle.table.specs.declared.table.Table.{Table}
 use Rattle.table.specs.Tables.{find}
-use Rattle.table.specs.Routes.{entryOf}
 use Rattle.table.specs.Search.{prefixAt, Ranked}
 use Rattle.table.specs.Model.{entries}
 use Rattle.table.proofs.Places.{prefix-at, hop-at}

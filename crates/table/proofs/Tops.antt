@@ -1,15 +1,15 @@
 -- A look-up is the topmost of what the address sees. Assumes nothing.
 use mathlib.Core.Path.{_≡_, refl, sym, ap, _∙_}
-use mathlib.Core.Bool.{Bool, true, false, cond, _&&_}
-use mathlib.Core.List.{List, [], _∷_}
-use mathlib.Core.Logic.{_⊎_, inl, inr}
-use Prim.Native.Nat.{ℕ, zero, suc, _+_, _<_, _≤_}
+use mathlib.Core.Bool.{true, false}
+use mathlib.Core.List.{[], _∷_}
+use mathlib.Core.Logic.{inl, inr}
+use Prim.Native.Nat.{ℕ, zero, suc, _<_, _≤_}
 use native.Mathlib.Omega.{arith}
 use lib.Dec.{eqb, leb}
-use lib.ListN.{length, take}
+use lib.ListN.{length}
 use Rattle.std.specs.declared.option.Option.{Option}
 use Rattle.std.specs.declared.option.Option.the-variants.{Some, None}
-use Rattle.std.proofs.shelf.Tests.{cond-both, cases-bool, and-parts, eqb-true, ne-eqb, eq-eqb, leb-true, leb-false, cases-lt, both-ways, and-left, and-right, cond-true, cond-false}
+use Rattle.std.proofs.shelf.Tests.{cond-both, and-parts, eqb-true, ne-eqb, eq-eqb, leb-true, leb-false, cases-lt, and-left, and-right, cond-true, cond-false}
 use Rattle.prefix.specs.Bits.{Bits, begins}
 use Rattle.prefix.proofs.Order.{begins-is}
 use Rattle.table.specs.declared.lookups.Match.{Match}

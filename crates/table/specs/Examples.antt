@@ -1,22 +1,22 @@
 -- The definitions on small tables. Assumes nothing.
 use mathlib.Core.Path.{_≡_}
-use mathlib.Core.Bool.{Bool, true, false}
-use mathlib.Core.List.{List, [], _∷_}
+use mathlib.Core.Bool.{true, false}
+use mathlib.Core.List.{[], _∷_}
 use Prim.Native.Nat.{ℕ}
 use Rattle.std.specs.declared.option.Option.{Option}
 use Rattle.std.specs.declared.option.Option.the-variants.{Some, None}
 use Rattle.prefix.specs.Bits.{Bits}
 use Rattle.table.specs.declared.lookups.Match.{Match}
-use Rattle.table.specs.Tables.{Entry, Entries, find, sends, sound, at, without, put, rising, seen}
+use Rattle.table.specs.Tables.{Entry, Entries, find, sends, SendSame, sound, at, without, put, rising, seen}
 
-abbrev line : Bits → ℕ → Entry
+abbrev pub line : Bits → ℕ → Entry
 line p h = record { prefix = p; hop = h }
 
-abbrev by : ℕ → ℕ → Option Match
+abbrev pub by : ℕ → ℕ → Option Match
 by n h = Some (record { len = n; «next_hop» = h })
 
 -- one line for all addresses; a longer one under it; one that drops under that
-abbrev nested : Entries
+abbrev pub nested : Entries
 nested = line [] 1 ∷ line (false ∷ []) 2 ∷ line (false ∷ true ∷ []) 0 ∷ []
 
 abbrev pub LookUps : Type 0
@@ -53,3 +53,13 @@ Changes =
     (without (false ∷ []) nested ≡ line [] 1 ∷ line (false ∷ true ∷ []) 0 ∷ []) ×
     (at nested (false ∷ []) ≡ Some 2) ×
     (at nested (true ∷ []) ≡ None)
+
+-- a line that drops sends as no line does, though look-ups differ; one that sends on does not
+abbrev pub Sending : Type 0
+Sending =
+    SendSame 2 (line [] 0 ∷ []) [] ×
+    (find (line [] 0 ∷ []) (true ∷ true ∷ []) ≡ by 0 0) ×
+    (SendSame 2 (line [] 1 ∷ []) [] → ⊥) ×
+    -- two halves send as the whole; a half does not
+    SendSame 1 (line [] 3 ∷ []) (line (false ∷ []) 3 ∷ line (true ∷ []) 3 ∷ []) ×
+    (SendSame 1 (line [] 3 ∷ []) (line (true ∷ []) 3 ∷ []) → ⊥)

@@ -1,11 +1,8 @@
 -- What holds of tables and look-ups, for any width; each statement is a theorem. Assumes nothing.
 use mathlib.Core.Path.{_≡_}
-use mathlib.Core.Bool.{Bool, true, false, cond, _&&_}
-use mathlib.Core.List.{List, [], _∷_}
+use mathlib.Core.Bool.{true, false, cond}
 use Prim.Native.Nat.{ℕ, suc, _≤_}
-use lib.Dec.{eqb}
 use lib.ListN.{length, take}
-use Rattle.std.specs.declared.option.Option.{Option}
 use Rattle.std.specs.declared.option.Option.the-variants.{Some, None}
 use Rattle.std.specs.Slices.{Shuffled}
 use Rattle.prefix.specs.Bits.{Bits, begins, same}
@@ -71,7 +68,7 @@ StaysRising =
 abbrev pub RisingDistinct : Type 0
 RisingDistinct = (t : Entries) → rising t ≡ true → distinct t ≡ true
 
--- the order of the lines does not matter to a look-up
+-- the order of the lines does not matter to a look-up: the lines may be shuffled, by exchanging two of them as often as one likes
 abbrev pub OrderFree : Type 0
 OrderFree = (t u : Entries) → distinct t ≡ true → Shuffled t u → (a : Bits) → find t a ≡ find u a
 

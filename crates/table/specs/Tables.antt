@@ -7,7 +7,7 @@ use lib.Dec.{eqb, leb}
 use lib.ListN.{length}
 use Rattle.std.specs.declared.option.Option.{Option}
 use Rattle.std.specs.declared.option.Option.the-variants.{Some, None}
-use Rattle.prefix.specs.Bits.{Bits, begins, same, before}
+use Rattle.prefix.specs.Bits.{Bits, Address, begins, same, before}
 use Rattle.table.specs.declared.lookups.Match.{Match}
 
 -- a line of a table: the prefix with which an address must begin, and the next hop for it. Next hop 0 is: dropped
@@ -21,11 +21,12 @@ Entries = List Entry
 
 -- LOOK-UPS
 
--- what a line says of an address that begins with it
+-- what a line says of an address that begins with it: how long it is, and its next hop. (The code's look-ups answer with the same
+-- record; here its numbers have no bound, so that it serves any width)
 abbrev pub matched : Entry → Match
 matched e = record { len = length (e .prefix); «next_hop» = e .hop }
 
--- the longer of a line that fits and of what the other lines gave
+-- the longer of a line that fits and of what the lines after it gave; of two as long the earlier line, which no sound table has
 abbrev pub longer : Entry → Option Match → Option Match
 longer e None = Some (matched e)
 longer e (Some m) = cond (leb (m .len) (length (e .prefix))) (Some (matched e)) (Some m)
@@ -46,7 +47,7 @@ sends t a = hopOf (find t a)
 
 -- two tables send the same: every address of w bits goes to one next hop by both
 abbrev pub SendSame : ℕ → Entries → Entries → Type 0
-SendSame w t u = (a : Bits) → length a ≡ w → sends t a ≡ sends u a
+SendSame w t u = (a : Bits) → Address w a → sends t a ≡ sends u a
 
 -- SOUND TABLES
 

@@ -2,12 +2,14 @@ ghost use mathlib.Core.Path.{_≡_};
 ghost use mathlib.Core.Bool.{cond};
 ghost use mathlib.Core.List.{[], map};
 ghost use lib.ListN.{length};
-ghost use Rattle.std.specs.Results.{isOk};
-ghost use Rattle.std.specs.Vec.{made};
+ghost use Prim.Native.Nat.{_+_, _<_, _≤_};
+ghost use Rattle.std.specs.declared.option.Option.the-variants.{None};
+ghost use Rattle.std.specs.Results.{Cases, isOk};
+ghost use Rattle.std.specs.Vec.{made, refused};
 ghost use Rattle.prefix.specs.Model.{bits};
 ghost use Rattle.table.specs.Tables.{at, put, without};
 ghost use Rattle.table.specs.Routes.{entryOf};
-ghost use Rattle.table.specs.Model.{entries};
+ghost use Rattle.table.specs.Model.{entries, room};
 use crate::route::NextHop;
 use crate::route::Route;
 use crate::table::Table;
@@ -50,11 +52,25 @@ impl Table {
         }
     }
 
+    // Gets memory for so many routes more, which puts then need not get.
+    // Where there is none, the table is as it was.
+    pub fn reserve(&mut self, more: usize) -> Result<(), AllocError>
+        ensures same { λ _. ⌜ entries (now (self .exit)) ≡ entries (now (self .entry)) ⌝ }
+        ensures cases { λ r. ⌜ Cases r (λ _. more ≤ room (now (self .exit))) (λ _. room (now (self .entry)) < more) ⌝ }
+        ensures keeps { λ _. ⌜ room (now (self .entry)) ≤ room (now (self .exit)) ⌝ }
+    {
+        self.routes.reserve(more)?;
+        self.networks.reserve(more)?;
+        Ok(())
+    }
+
     // Puts a route, in place of one with the same prefix, whose next hop is given back.
-    // Where there is no memory for one more, the table is as it was.
+    // It is refused only where its prefix is new and there is no memory for one more; the table is then as it was.
     pub fn put(&mut self, route: Route) -> Result<Option<NextHop>, AllocError>
         ensures value { λ r. ⌜ made r (λ old. old ≡ at (entries (now (self .entry))) (bits (route .prefix))) ⌝ }
         ensures after { λ r. ⌜ entries (now (self .exit)) ≡ cond (isOk r) (put (entryOf route) (entries (now (self .entry)))) (entries (now (self .entry))) ⌝ }
+        ensures full { λ r. ⌜ refused r (λ _. (at (entries (now (self .entry))) (bits (route .prefix)) ≡ None) × (room (now (self .entry)) ≡ 0)) ⌝ }
+        ensures uses { λ _. ⌜ room (now (self .entry)) ≤ room (now (self .exit)) + 1 ⌝ }
     {
         match self.search(route.prefix) {
             Ok(i) => {
@@ -63,11 +79,10 @@ impl Table {
                 Ok(Some(old))
             }
             Err(i) => {
-                self.networks.insert(i, route.prefix.network())?;
-                if self.routes.insert(i, route).is_err() {
-                    self.networks.remove(i);
-                    return Err(AllocError);
-                }
+                self.reserve(1)?;
+                // with the memory at hand neither is refused
+                let _ = self.networks.insert(i, route.prefix.network());
+                let _ = self.routes.insert(i, route);
                 Ok(None)
             }
         }
@@ -77,6 +92,7 @@ impl Table {
     pub fn remove(&mut self, prefix: Prefix) -> Option<NextHop>
         ensures value { λ r. ⌜ r ≡ at (entries (now (self .entry))) (bits prefix) ⌝ }
         ensures after { λ _. ⌜ entries (now (self .exit)) ≡ without (bits prefix) (entries (now (self .entry))) ⌝ }
+        ensures keeps { λ _. ⌜ room (now (self .entry)) ≤ room (now (self .exit)) ⌝ }
     {
         match self.search(prefix) {
             Ok(i) => {

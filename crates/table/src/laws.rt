@@ -1,4 +1,4 @@
-ghost use Rattle.table.specs.Examples.{Changes, LookUps};
+ghost use Rattle.table.specs.Examples.{Changes, LookUps, Sending};
 ghost use Rattle.table.specs.Model.{AllSound};
 ghost use Rattle.table.specs.Laws.{AtPut, AtWithout, CountPut, CountWithout, LinesDecide, Longest, OrderFree, RisingDistinct, RisingOnce, SeenAt, SeenPut, SeenWithout, StaysRising, StaysSound, Topmost};
 
@@ -6,6 +6,7 @@ ghost use Rattle.table.specs.Laws.{AtPut, AtWithout, CountPut, CountWithout, L
 pub fn tables_by_example()
     ensures lookups { λ _. ⌜ LookUps ⌝ }
     ensures changes { λ _. ⌜ Changes ⌝ }
+    ensures sending { λ _. ⌜ Sending ⌝ }
 {
     ()
 }

@@ -1,10 +1,9 @@
-use mathlib.Core.Path.{_≡_, sym, ap, _∙_}
+use mathlib.Core.Path.{sym, ap, _∙_}
 use mathlib.Core.List.{map}
 use native.Mathlib.Omega.{arith}
-use lib.Dec.{ltb, leb}
+use lib.Dec.{leb}
 use lib.ListN.{length, getD}
 use Rattle.std.proofs.shelf.Lists.{length-map}
-use Rattle.prefix.specs.Bits.{number}
 use Rattle.prefix.specs.Model.{bits}
 use Rattle.table.specs.declared.route.Route.{Route}
 use Rattle.table.specs.Routes.{entryOf, networkOf}

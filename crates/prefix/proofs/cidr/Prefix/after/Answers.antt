@@ -1,9 +1,9 @@
 use mathlib.Core.Path.{_≡_, sym, ap, _∙_}
 use mathlib.Core.Bool.{false}
 use mathlib.Core.List.{_∷_, _++_}
-use Prim.Native.Nat.{suc, _+_, _-_, _*_, _/_, _%_, _^_, _≤_, _<_}
+use Prim.Native.Nat.{suc, _+_, _-_}
 use native.Mathlib.Omega.{arith}
-use lib.ListN.{length, take, drop, getD}
+use lib.ListN.{take, drop}
 use Rattle.std.proofs.shelf.Lists.{getD-take}
 use Rattle.prefix.specs.Bits.{Bits, bitsOf, odd}
 use Rattle.prefix.specs.Model.{bits}

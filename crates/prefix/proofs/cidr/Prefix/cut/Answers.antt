@@ -1,6 +1,6 @@
-use mathlib.Core.Path.{_≡_, sym, ap, _∙_}
+use mathlib.Core.Path.{sym, ap, _∙_}
 use native.Mathlib.Omega.{arith}
-use Prim.Native.Nat.{_≤_, _%_, _^_, _-_}
+use Prim.Native.Nat.{_≤_, _-_}
 use lib.ListN.{length, take, length-take}
 use Rattle.std.proofs.shelf.Lists.{take-all, take-take}
 use Rattle.prefix.specs.Bits.{bitsOf}

@@ -1,4 +1,3 @@
-use Prim.Native.Nat.{ℕ}
 use lib.ListN.{length}
 use Rattle.prefix.specs.Model.{addressBits, bits}
 use Rattle.table.specs.Model.{entries}

@@ -1,4 +1,4 @@
-use mathlib.Core.Path.{_≡_, refl, _∙_, sym, ap}
+use mathlib.Core.Path.{_∙_, sym, ap}
 use mathlib.Core.List.{map}
 use Rattle.table.specs.Tables.{rising}
 use Rattle.table.specs.Routes.{entryOf, networkOf}

@@ -1,5 +1,6 @@
-use mathlib.Core.Path.{_≡_, refl, sym, ap, _∙_}
+use mathlib.Core.Path.{sym, ap, _∙_}
 use mathlib.Core.List.{map}
+use native.Mathlib.Omega.{arith}
 use Rattle.std.specs.declared.option.Option.the-variants.{Some}
 use Rattle.std.specs.Of.Vec.{vec-items}
 use Rattle.prefix.specs.Model.{bits}
@@ -28,9 +29,10 @@ returns-in-Ok c =
     record {
       after = ap (map entryOf) (c .remove-in-Ok .ensures .items) ∙ gone-is t _ _ (c .in-Ok .ensures tt);
       value = sym (s .gives ∙ ap Some (hop-at (vec-items (t .routes)) i (c .remove-in-Ok .result) (within t _ _ (c .in-Ok .ensures tt) .in-items) (c .remove-in-Ok .ensures .value)));
+      keeps = omega (arith, c .remove .ensures .len, c .remove .ensures .capacity, c .remove-in-Ok .ensures .len, c .remove-in-Ok .ensures .capacity);
     }
 
 pub returns-in-Err : need.returns-in-Err
 returns-in-Err c =
     let l = lacking (entries (c .args .self .now)) (bits (c .args .prefix)) _ (c .in-Err .ensures tt) in
-    record { value = sym (l .none); after = sym (l .leaves) }
+    record { value = sym (l .none); after = sym (l .leaves); keeps = omega arith }
