@@ -62,6 +62,7 @@ fn address(text: &str) -> Option<u32> {
 fn run(rt: &LibcRuntime) -> Result<(), AnyError> {
     let table = example(rt.alloc())?;
     let mut out = BufWriter::new(rt.stdout());
+    let mut given = false;
     for text in env::args(rt)?.skip(1) {
         let Some(address) = address(text.as_str()) else {
             eprintln!(rt, "look: not an address: {text}")?;
@@ -69,8 +70,16 @@ fn run(rt: &LibcRuntime) -> Result<(), AnyError> {
         };
         let next_hop = table.next_hop(address);
         writeln!(out, "{next_hop}")?;
+        given = true;
     }
     out.flush()?;
+    if !given {
+        eprintln!(
+            rt,
+            "usage: look ADDRESS.. (as 10.1.2.3; prints the next hop of each in the example table, 0 where it is dropped)"
+        )?;
+        return Err("no address".into());
+    }
     Ok(())
 }
 
