@@ -7,7 +7,7 @@ use std::error::AnyError;
 use std::time::Instant;
 use table::Route;
 use table::Table;
-use table::wanted_limit;
+use table::WANTED_LIMIT;
 
 // the most lines that a wanted table has
 const LINES: usize = 32_768;
@@ -42,7 +42,7 @@ fn fill(heap: Global) -> Result<Table, AnyError> {
     let mut table = Table::new(heap);
     let mut seed = 1;
     for _ in 0..1_000_000 {
-        if table.len() >= wanted_limit() {
+        if table.len() >= WANTED_LIMIT {
             break;
         }
         seed = next(seed);

@@ -1,4 +1,4 @@
--- How many lines tables may have. Assumes nothing.
+-- How many lines tables may have: the values of the code's `WANTED_LIMIT` and `DEVICE_LIMIT`. Assumes nothing.
 use Prim.Native.Nat.{ℕ}
 
 -- the most lines of a wanted table
