@@ -26,7 +26,7 @@ Entries = List Entry
 abbrev pub matched : Entry → Match
 matched e = record { len = length (e .prefix); «next_hop» = e .hop }
 
--- the longer of a line that fits and of what the lines after it gave; of two as long the earlier line, which no sound table has
+-- the longer of a line that fits and of what the lines after it gave; of two as long (a sound table has no such two) the earlier line
 abbrev pub longer : Entry → Option Match → Option Match
 longer e None = Some (matched e)
 longer e (Some m) = cond (leb (m .len) (length (e .prefix))) (Some (matched e)) (Some m)
