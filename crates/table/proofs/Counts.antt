@@ -1,10 +1,9 @@
 -- How many lines a table has after a put or a drop, and that it stays sound. Assumes nothing.
 use mathlib.Core.Path.{_≡_, refl, sym, ap, _∙_}
-use mathlib.Core.Bool.{true, false, cond, _&&_, not}
+use mathlib.Core.Bool.{true, false, cond, not}
 use mathlib.Core.List.{[], _∷_}
 use mathlib.Core.Logic.{inl, inr}
-use Prim.Native.Nat.{ℕ, suc}
-use lib.Dec.{leb}
+use Prim.Native.Nat.{suc}
 use lib.ListN.{length}
 use Rattle.std.proofs.shelf.Tests.{cond-both, cases-bool, and-parts, and-from, or-parts, or-from, not-true, not-from-false, le-leb}
 use Rattle.prefix.specs.Bits.{Bits, same, before}
@@ -12,7 +11,7 @@ use Rattle.prefix.proofs.Strings.{same-eq}
 use Rattle.prefix.proofs.Order.{differ-turn}
 use Rattle.table.specs.Tables.{Entry, Entries, has, distinct, fits, without, insert}
 use Rattle.table.specs.Laws.{CountPut, CountWithout, StaysSound}
-use Rattle.table.proofs.Picks.{has-without, has-fewer, without-none}
+use Rattle.table.proofs.Picks.{has-without, has-fewer, without-none, every-without, every-insert}
 
 pub distinct-parts : (e : Entry) (es : Entries) → distinct (e ∷ es) ≡ true → (has (e .prefix) es ≡ false) × (distinct es ≡ true)
 unfolding distinct
@@ -82,39 +81,13 @@ distinct-insert e (f ∷ fs) h d =
     (λ _. distinct-from e (f ∷ fs) h d)
     (λ _. distinct-from f (insert e fs) (has-insert (f .prefix) e fs (differ-turn (e .prefix) (f .prefix) (o .0)) (s .0)) (distinct-insert e fs (o .1) (s .1)))
 
--- widths and next hops
-
-fits-parts : (w : ℕ) (e : Entry) (es : Entries) → fits w (e ∷ es) ≡ true → ((leb (length (e .prefix)) w && leb (e .hop) 255) ≡ true) × (fits w es ≡ true)
-unfolding fits
-fits-parts w e es h = and-parts _ _ h
-
-fits-from : (w : ℕ) (e : Entry) (es : Entries) → (leb (length (e .prefix)) w && leb (e .hop) 255) ≡ true → fits w es ≡ true → fits w (e ∷ es) ≡ true
-unfolding fits
-fits-from w e es h k = and-from _ _ h k
-
-fits-without : (w : ℕ) (p : Bits) (t : Entries) → fits w t ≡ true → fits w (without p t) ≡ true
-unfolding without
-fits-without w p [] h = h
-fits-without w p (e ∷ es) h =
-    let s = fits-parts w e es h in
-    cond-both (same p (e .prefix)) (without p es) (e ∷ without p es) (λ t. fits w t ≡ true)
-    (λ _. fits-without w p es (s .1)) (λ _. fits-from w e (without p es) (s .0) (fits-without w p es (s .1)))
-
-fits-insert : (w : ℕ) (e : Entry) (t : Entries) → (leb (length (e .prefix)) w && leb (e .hop) 255) ≡ true → fits w t ≡ true → fits w (insert e t) ≡ true
-unfolding insert
-fits-insert w e [] g h = fits-from w e [] g h
-fits-insert w e (f ∷ fs) g h =
-    let s = fits-parts w f fs h in
-    cond-both (before (e .prefix) (f .prefix)) (e ∷ f ∷ fs) (f ∷ insert e fs) (λ t. fits w t ≡ true)
-    (λ _. fits-from w e (f ∷ fs) g h) (λ _. fits-from w f (insert e fs) (s .0) (fits-insert w e fs g (s .1)))
-
 pub stays-sound : StaysSound
 stays-sound = (
   (λ w e t l x h.
       let s = and-parts (distinct t) (fits w t) h in
       and-from _ _ (distinct-insert e (without (e .prefix) t) (has-without (e .prefix) t) (distinct-without (e .prefix) t (s .0)))
-      (fits-insert w e (without (e .prefix) t) (and-from _ _ (le-leb _ _ l) (le-leb _ _ x)) (fits-without w (e .prefix) t (s .1)))),
+      (every-insert _ e (without (e .prefix) t) (and-from _ _ (le-leb _ _ l) (le-leb _ _ x)) (every-without _ (e .prefix) t (s .1)))),
   λ w p t h.
       let s = and-parts (distinct t) (fits w t) h in
-      and-from _ _ (distinct-without p t (s .0)) (fits-without w p t (s .1)),
+      and-from _ _ (distinct-without p t (s .0)) (every-without _ p t (s .1)),
 )

@@ -4,7 +4,7 @@ use mathlib.Core.Bool.{true}
 use mathlib.Core.List.{List, [], _∷_, map}
 use Prim.Native.Nat.{ℕ, _-_, _<_, _≤_}
 use native.Mathlib.Omega.{arith}
-use lib.ListN.{length, set}
+use lib.ListN.{length, getD, set}
 use Rattle.std.specs.Of.Vec.{vec-cap, vec-items, vec-len}
 use Rattle.std.specs.Holes.{inserted, removed}
 use Rattle.std.proofs.shelf.Lists.{length-map, map-set}
@@ -13,12 +13,12 @@ use Rattle.prefix.specs.Bits.{Bits}
 use Rattle.prefix.specs.Model.{bits}
 use Rattle.table.specs.declared.route.Route.{Route}
 use Rattle.table.specs.declared.table.Table.{Table}
-use Rattle.table.specs.Tables.{Entries, fits, put, without, rising}
+use Rattle.table.specs.Tables.{Entries, fits, put, without, rising, every}
 use Rattle.table.specs.Routes.{entryOf, networkOf}
-use Rattle.table.specs.Search.{Ranked, Stands, Missing}
+use Rattle.table.specs.Search.{prefixAt, Ranked, Stands, Missing}
 use Rattle.table.specs.Model.{entries, room, AllSound}
 use Rattle.table.proofs.Rising.{rising-distinct, rising-put, rising-without}
-use Rattle.table.proofs.Places.{standing, lacking, key-short, map-inserted, map-removed, networks-stay}
+use Rattle.table.proofs.Places.{standing, lacking, key-short, map-inserted, map-removed, networks-stay, prefix-at}
 
 -- both vectors have as many elements as there are lines
 long : (t : Table) → (vec-len (t .routes) ≡ length (entries t)) × (vec-len (t .networks) ≡ length (entries t)) × (length (vec-items (t .routes)) ≡ length (entries t)) × (length (vec-items (t .networks)) ≡ length (entries t))
@@ -54,6 +54,9 @@ upto t p i s =
 -- the last of the routes that come no later than a key
 pub last-within : (t : Table) (p : Bits) (r : ℕ) → Ranked (entries t) p r → (r ≡ 0 → ⊥) → (r - 1 < vec-len (t .routes)) × (r - 1 < length (vec-items (t .routes)))
 last-within t p r k n = let l = long t in (omega (arith, k .within, l .0), omega (arith, k .within, l .2))
+
+pub last-prefix : (t : Table) (p : Bits) (r : ℕ) (route : Route) → Ranked (entries t) p r → (r ≡ 0 → ⊥) → route ≡ getD (vec-items (t .routes)) (r - 1) route → prefixAt (entries t) (r - 1) ≡ bits (route .prefix)
+last-prefix t p r route k n is = prefix-at (vec-items (t .routes)) (r - 1) route (last-within t p r k n .1) is
 
 -- a table that holds the same lines lacks the same prefix
 pub missing-at : (t u : Table) (p : Bits) (i : ℕ) → entries u ≡ entries t → Missing (entries t) p i → Missing (entries u) p i
@@ -114,7 +117,7 @@ sound-at rs rs′ ns ns′ e f s = record { ordered = rw e (s .ordered); indexed
 -- every table is sound
 
 fits-all : (rs : List Route) → fits 32 (map entryOf rs) ≡ true
-unfolding fits
+unfolding every
 fits-all [] = refl
 fits-all (r ∷ rs) =
     and-from _ _ (and-from _ _ (le-leb _ _ (key-short (r .prefix))) (le-leb _ _ (r .octet))) (fits-all rs)

@@ -8,12 +8,12 @@ use lib.Dec.{eqb}
 use lib.ListN.{length, take}
 use Rattle.std.specs.declared.option.Option.{Option}
 use Rattle.std.specs.declared.option.Option.the-variants.{Some, None}
-use Rattle.std.proofs.shelf.Tests.{cond-both, and-parts, or-parts, or-from, eqb-true, both-ways}
+use Rattle.std.proofs.shelf.Tests.{cond-both, and-parts, or-parts, or-from, eqb-true, both-ways, and-from}
 use Rattle.std.proofs.shelf.Ways.{tells}
 use Rattle.prefix.specs.Bits.{Bits, sameBit, begins, same, before}
 use Rattle.prefix.proofs.Strings.{same-eq, same-refl}
 use Rattle.prefix.proofs.Order.{begins-is}
-use Rattle.table.specs.Tables.{Entry, Entries, has, pick, without, insert, put, sits}
+use Rattle.table.specs.Tables.{Entry, Entries, every, has, pick, without, insert, put, sits}
 use Rattle.table.specs.Laws.{SeenAt, SeenPut, SeenWithout, AtPut, AtWithout}
 
 -- prefixes and what is removed
@@ -38,6 +38,33 @@ unfolding has without
 without-none p [] h = refl
 without-none p (e ∷ es) h =
     let s = or-parts (same p (e .prefix)) (has p es) h in rw (s .0) (ap (λ (x : Entries). e ∷ x) (without-none p es (s .1)))
+
+-- tests that every line passes
+
+module _ (f : Entry → Bool) where
+  pub every-parts : (e : Entry) (es : Entries) → every f (e ∷ es) ≡ true → (f e ≡ true) × (every f es ≡ true)
+  unfolding every
+  every-parts e es h = and-parts _ _ h
+
+  pub every-from : (e : Entry) (es : Entries) → f e ≡ true → every f es ≡ true → every f (e ∷ es) ≡ true
+  unfolding every
+  every-from e es h k = and-from _ _ h k
+
+  pub every-without : (p : Bits) (t : Entries) → every f t ≡ true → every f (without p t) ≡ true
+  unfolding without
+  every-without p [] h = h
+  every-without p (e ∷ es) h =
+      let s = every-parts e es h in
+      cond-both (same p (e .prefix)) (without p es) (e ∷ without p es) (λ t. every f t ≡ true)
+      (λ _. every-without p es (s .1)) (λ _. every-from e (without p es) (s .0) (every-without p es (s .1)))
+
+  pub every-insert : (e : Entry) (t : Entries) → f e ≡ true → every f t ≡ true → every f (insert e t) ≡ true
+  unfolding insert
+  every-insert e [] g h = every-from e [] g h
+  every-insert e (k ∷ ks) g h =
+      let s = every-parts k ks h in
+      cond-both (before (e .prefix) (k .prefix)) (e ∷ k ∷ ks) (k ∷ insert e ks) (λ t. every f t ≡ true)
+      (λ _. every-from e (k ∷ ks) g h) (λ _. every-from k (insert e ks) (s .0) (every-insert e ks g (s .1)))
 
 -- a test that no two prefixes pass
 abbrev pub Single : (Bits → Bool) → Type 0

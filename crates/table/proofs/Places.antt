@@ -21,7 +21,7 @@ use Rattle.prefix.specs.declared.cidr.Prefix.{Prefix}
 use Rattle.prefix.proofs.Numbers.{by-number}
 use Rattle.prefix.proofs.Meaning.{bits-length}
 use Rattle.table.specs.declared.route.Route.{Route}
-use Rattle.table.specs.Tables.{Entry, Entries, has, pick, at, without, insert, put, leads, rising}
+use Rattle.table.specs.Tables.{Entry, Entries, has, pick, at, without, insert, put, leads, rising, every}
 use Rattle.table.specs.Routes.{entryOf, networkOf}
 use Rattle.table.specs.Search.{entryAt, prefixAt, Ranked, Stands, Missing}
 use Rattle.table.proofs.Picks.{without-none}
@@ -143,7 +143,7 @@ insert-first e [] h = refl
 insert-first e (f ∷ fs) h = cond-true _ (e ∷ f ∷ fs) (f ∷ insert e fs) (leads-parts e f fs h .0)
 
 leads-like : (e f : Entry) (t : Entries) → e .prefix ≡ f .prefix → leads f t ≡ true → leads e t ≡ true
-unfolding leads
+unfolding every
 leads-like e f [] q h = refl
 leads-like e f (g ∷ gs) q h = let s = leads-parts f g gs h in leads-from e g gs (rw q (s .0)) (leads-like e f gs q (s .1))
 

@@ -5,18 +5,16 @@ use mathlib.Core.List.{[], _∷_}
 use Rattle.std.proofs.shelf.Tests.{cond-both, and-parts, and-from, or-parts, or-from}
 use Rattle.prefix.specs.Bits.{Bits, same, before}
 use Rattle.prefix.proofs.Order.{before-trans, before-differ, before-other}
-use Rattle.table.specs.Tables.{Entry, Entries, has, distinct, without, insert, put, leads, rising}
+use Rattle.table.specs.Tables.{Entry, Entries, every, has, distinct, without, insert, put, leads, rising}
 use Rattle.table.specs.Laws.{StaysRising, RisingDistinct}
-use Rattle.table.proofs.Picks.{has-without}
+use Rattle.table.proofs.Picks.{has-without, every-parts, every-from, every-without, every-insert}
 use Rattle.table.proofs.Counts.{distinct-from}
 
 pub leads-parts : (e f : Entry) (fs : Entries) → leads e (f ∷ fs) ≡ true → (before (e .prefix) (f .prefix) ≡ true) × (leads e fs ≡ true)
-unfolding leads
-leads-parts e f fs h = and-parts _ _ h
+leads-parts e f fs h = every-parts (λ g. before (e .prefix) (g .prefix)) f fs h
 
 pub leads-from : (e f : Entry) (fs : Entries) → before (e .prefix) (f .prefix) ≡ true → leads e fs ≡ true → leads e (f ∷ fs) ≡ true
-unfolding leads
-leads-from e f fs b h = and-from _ _ b h
+leads-from e f fs b h = every-from (λ g. before (e .prefix) (g .prefix)) f fs b h
 
 pub rising-parts : (e : Entry) (es : Entries) → rising (e ∷ es) ≡ true → (leads e es ≡ true) × (rising es ≡ true)
 unfolding rising
@@ -27,7 +25,7 @@ unfolding rising
 rising-from e es l h = and-from _ _ l h
 
 pub leads-through : (e f : Entry) (fs : Entries) → before (e .prefix) (f .prefix) ≡ true → leads f fs ≡ true → leads e fs ≡ true
-unfolding leads
+unfolding every
 leads-through e f [] b h = refl
 leads-through e f (g ∷ gs) b h =
     let s = leads-parts f g gs h in leads-from e g gs (before-trans (e .prefix) (f .prefix) (g .prefix) b (s .0)) (leads-through e f gs b (s .1))
@@ -45,39 +43,23 @@ rising-distinct [] h = refl
 rising-distinct (e ∷ es) h =
     let s = rising-parts e es h in distinct-from e es (leads-has e es (s .0)) (rising-distinct es (s .1))
 
-leads-without : (e : Entry) (p : Bits) (t : Entries) → leads e t ≡ true → leads e (without p t) ≡ true
-unfolding without
-leads-without e p [] h = h
-leads-without e p (f ∷ fs) h =
-    let s = leads-parts e f fs h in
-    cond-both (same p (f .prefix)) (without p fs) (f ∷ without p fs) (λ t. leads e t ≡ true)
-    (λ _. leads-without e p fs (s .1)) (λ _. leads-from e f (without p fs) (s .0) (leads-without e p fs (s .1)))
-
 pub rising-without : (p : Bits) (t : Entries) → rising t ≡ true → rising (without p t) ≡ true
 unfolding without
 rising-without p [] h = h
 rising-without p (e ∷ es) h =
     let s = rising-parts e es h in
     cond-both (same p (e .prefix)) (without p es) (e ∷ without p es) (λ t. rising t ≡ true)
-    (λ _. rising-without p es (s .1)) (λ _. rising-from e (without p es) (leads-without e p es (s .0)) (rising-without p es (s .1)))
-
-leads-insert : (f e : Entry) (t : Entries) → before (f .prefix) (e .prefix) ≡ true → leads f t ≡ true → leads f (insert e t) ≡ true
-unfolding insert
-leads-insert f e [] b h = leads-from f e [] b h
-leads-insert f e (g ∷ gs) b h =
-    let s = leads-parts f g gs h in
-    cond-both (before (e .prefix) (g .prefix)) (e ∷ g ∷ gs) (g ∷ insert e gs) (λ t. leads f t ≡ true)
-    (λ _. leads-from f e (g ∷ gs) b h) (λ _. leads-from f g (insert e gs) (s .0) (leads-insert f e gs b (s .1)))
+    (λ _. rising-without p es (s .1)) (λ _. rising-from e (without p es) (every-without _ p es (s .0)) (rising-without p es (s .1)))
 
 rising-insert : (e : Entry) (t : Entries) → has (e .prefix) t ≡ false → rising t ≡ true → rising (insert e t) ≡ true
-unfolding insert has leads
+unfolding insert has every
 rising-insert e [] n h = rising-from e [] refl h
 rising-insert e (f ∷ fs) n h =
     let s = rising-parts f fs h in
     let o = or-parts (same (e .prefix) (f .prefix)) (has (e .prefix) fs) n in
     cond-both (before (e .prefix) (f .prefix)) (e ∷ f ∷ fs) (f ∷ insert e fs) (λ t. rising t ≡ true)
     (λ y. rising-from e (f ∷ fs) (leads-from e f fs y (leads-through e f fs y (s .0))) h)
-    (λ y. rising-from f (insert e fs) (leads-insert f e fs (before-other (e .prefix) (f .prefix) y (o .0)) (s .0)) (rising-insert e fs (o .1) (s .1)))
+    (λ y. rising-from f (insert e fs) (every-insert (λ g. before (f .prefix) (g .prefix)) e fs (before-other (e .prefix) (f .prefix) y (o .0)) (s .0)) (rising-insert e fs (o .1) (s .1)))
 
 pub rising-put : (e : Entry) (t : Entries) → rising t ≡ true → rising (put e t) ≡ true
 rising-put e t h = rising-insert e (without (e .prefix) t) (has-without (e .prefix) t) (rising-without (e .prefix) t h)

@@ -13,8 +13,8 @@ use Rattle.table.specs.declared.table.Table.{Table}
 use Rattle.table.specs.Tables.{find}
 use Rattle.table.specs.Search.{prefixAt, Ranked}
 use Rattle.table.specs.Model.{entries}
-use Rattle.table.proofs.Places.{prefix-at, hop-at}
-use Rattle.table.proofs.Held.{last-within}
+use Rattle.table.proofs.Places.{hop-at}
+use Rattle.table.proofs.Held.{last-within, last-prefix}
 use Rattle.table.proofs.Longest.{Narrowed, Clear, finds-none, finds-last, narrows}
 
 -- the whole address is where the search begins
@@ -37,7 +37,7 @@ module _ (t : Table) (a key : Bits) (r : ℕ) (inv : Narrowed (entries t) a key)
   -- the last route that comes no later than the key, and how much of it the address shares
   module _ (some : r ≡ 0 → ⊥) (route : Route) (shared : ℕ) (is : route ≡ getD (vec-items (t .routes)) (r - 1) route) (shares : shared ≡ common (bits (route .prefix)) a) where
     prefix-is : prefixAt (entries t) (r - 1) ≡ bits (route .prefix)
-    prefix-is = prefix-at (vec-items (t .routes)) (r - 1) route (last-within t key r rank some .1) is
+    prefix-is = last-prefix t key r route rank some is
 
     common-is : common (prefixAt (entries t) (r - 1)) a ≡ shared
     common-is = ap (λ (p : Bits). common p a) prefix-is ∙ sym shares

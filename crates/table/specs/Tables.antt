@@ -61,10 +61,14 @@ unfoldable pub distinct : Entries → Bool
 distinct [] = true
 distinct (e ∷ es) = not (has (e .prefix) es) && distinct es
 
+-- whether every line passes a test
+unfoldable pub every : (Entry → Bool) → Entries → Bool
+every f [] = true
+every f (e ∷ es) = f e && every f es
+
 -- no prefix is longer than an address of w bits, and next hops are at most 255
-unfoldable pub fits : ℕ → Entries → Bool
-fits w [] = true
-fits w (e ∷ es) = leb (length (e .prefix)) w && leb (e .hop) 255 && fits w es
+abbrev pub fits : ℕ → Entries → Bool
+fits w t = every (λ e. leb (length (e .prefix)) w && leb (e .hop) 255) t
 
 -- a table of addresses of w bits is as it should be
 abbrev pub sound : ℕ → Entries → Bool
@@ -98,9 +102,8 @@ put e t = insert e (without (e .prefix) t)
 -- THE ORDER OF LINES
 
 -- a line comes before all of these
-unfoldable pub leads : Entry → Entries → Bool
-leads e [] = true
-leads e (f ∷ fs) = before (e .prefix) (f .prefix) && leads e fs
+abbrev pub leads : Entry → Entries → Bool
+leads e t = every (λ f. before (e .prefix) (f .prefix)) t
 
 -- lines by bits as a number rising and then by length rising: each comes before all that follow it
 unfoldable pub rising : Entries → Bool

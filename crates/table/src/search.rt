@@ -14,8 +14,8 @@ use crate::table::Table;
 use prefix::Prefix;
 use std::cmp::Ordering;
 
-// Whether the route at a place comes no later than the key. Mostly the networks tell.
-fn comes_by(networks: &[u32], routes: &[Route], place: usize, key: Prefix) -> bool
+// Whether the route at a place stands at the key or before it in the order. Mostly the networks tell.
+fn at_or_before(networks: &[u32], routes: &[Route], place: usize, key: Prefix) -> bool
     requires within { ⌜ place < length (now routes) ⌝ }
     requires indexed { ⌜ now networks ≡ map networkOf (now routes) ⌝ }
     ensures { λ r. ⌜ r ≡ not (before (bits key) (prefixAt (map entryOf (now (routes .entry))) place)) ⌝ }
@@ -27,7 +27,7 @@ fn comes_by(networks: &[u32], routes: &[Route], place: usize, key: Prefix) -> bo
     routes[place].prefix.len() <= key.len()
 }
 
-// How many routes come no later than the key: found by halving.
+// How many routes stand at the key or before it: found by halving.
 pub(crate) fn rank(networks: &[u32], routes: &[Route], key: Prefix) -> usize
     requires ordered { ⌜ rising (map entryOf (now routes)) ≡ true ⌝ }
     requires indexed { ⌜ now networks ≡ map networkOf (now routes) ⌝ }
@@ -37,7 +37,7 @@ pub(crate) fn rank(networks: &[u32], routes: &[Route], key: Prefix) -> usize
     let mut high = networks.len();
     while low < high {
         let middle = low + (high - low) / 2;
-        if comes_by(networks, routes, middle, key) {
+        if at_or_before(networks, routes, middle, key) {
             low = middle + 1;
         } else {
             high = middle;

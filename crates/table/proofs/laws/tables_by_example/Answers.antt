@@ -4,7 +4,7 @@ use mathlib.Core.List.{[], _∷_}
 use Prim.Native.Nat.{ℕ, _<_}
 use native.Mathlib.Omega.{arith}
 use Rattle.prefix.specs.Bits.{Bits, Address, begins, same, before}
-use Rattle.table.specs.Tables.{find, sends, has, distinct, fits, pick, without, insert, leads, rising}
+use Rattle.table.specs.Tables.{find, sends, has, distinct, every, pick, without, insert, rising}
 use Rattle.table.specs.Examples.{line}
 use Rattle.table.proofs.laws.tables_by_example.Needs as need
 
@@ -20,7 +20,7 @@ never : (x : ℕ) → x ≡ 0 → 0 < x → ⊥
 never x e h = omega arith
 
 pub returns : need.returns
-unfolding begins same before find has distinct fits pick without insert leads rising
+unfolding begins same before find has distinct every pick without insert rising
 returns c = record {
   lookups = (refl, refl, refl, refl, refl, refl, refl, refl, refl, refl);
   changes = (refl, refl, refl, refl, refl, refl, refl, refl, refl, refl, refl, refl);

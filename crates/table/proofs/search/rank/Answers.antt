@@ -17,14 +17,14 @@ loop-low-holds c =
     let m = length-map (c .args .routes .now) entryOf in
     (omega arith, omega arith, λ k h. absurd (omega arith), λ k h i. absurd (omega arith))
 
-pub comes-by-requires : need.comes-by-requires
-comes-by-requires c κs =
+pub at-or-before-requires : need.at-or-before-requires
+at-or-before-requires c κs =
     let l = ap length (c .pre .indexed) ∙ length-map (c .args .routes .now) networkOf in
     let i = c .loop-low .inv in
     record { within = omega (arith, i .0, i .1); indexed = c .pre .indexed }
 
-pub loop-low-again-then-comes-by : need.loop-low-again-then-comes-by
-loop-low-again-then-comes-by c =
+pub loop-low-again-then-at-or-before : need.loop-low-again-then-at-or-before
+loop-low-again-then-at-or-before c =
     let l = ap length (c .pre .indexed) ∙ length-map (c .args .routes .now) networkOf in
     let m = length-map (c .args .routes .now) entryOf in
     let i = c .loop-low .inv in
@@ -32,7 +32,7 @@ loop-low-again-then-comes-by c =
     let h : c .loop-low .low + (c .loop-low .high - c .loop-low .low) / 2 < length (map entryOf (c .args .routes .now)) = omega (arith, i .0, i .1) in (
       omega (arith, i .0),
       i .1,
-      (λ k b. low-side (map entryOf (c .args .routes .now)) (bits (c .args .key)) k middle (c .pre .ordered) h (not-true _ (sym (c .if-comes-by .ensures tt))) (omega arith)),
+      (λ k b. low-side (map entryOf (c .args .routes .now)) (bits (c .args .key)) k middle (c .pre .ordered) h (not-true _ (sym (c .if-at-or-before .ensures tt))) (omega arith)),
       i .3,
     )
 
@@ -43,7 +43,7 @@ loop-low-again c =
       omega arith,
       omega (arith, i .0, i .1),
       i .2,
-      λ k b e. high-side (map entryOf (c .args .routes .now)) (bits (c .args .key)) middle k (c .pre .ordered) (not-false _ (sym (c .if-comes-by .ensures tt))) b e,
+      λ k b e. high-side (map entryOf (c .args .routes .now)) (bits (c .args .key)) middle k (c .pre .ordered) (not-false _ (sym (c .if-at-or-before .ensures tt))) b e,
     )
 
 pub returns : need.returns

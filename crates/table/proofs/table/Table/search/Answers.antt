@@ -1,13 +1,12 @@
 use mathlib.Core.Path.{sym, ap, _∙_}
 use mathlib.Core.List.{map}
-use Prim.Native.Nat.{_-_}
 use Rattle.std.specs.Of.Vec.{vec-items}
 use Rattle.prefix.specs.Bits.{Bits}
 use Rattle.prefix.specs.Model.{bits, compared}
 use Rattle.table.specs.Routes.{networkOf}
 use Rattle.table.specs.Model.{entries}
-use Rattle.table.proofs.Places.{ranked-at, prefix-at, ranked-stands, ranked-missing}
-use Rattle.table.proofs.Held.{last-within}
+use Rattle.table.proofs.Places.{ranked-at, ranked-stands, ranked-missing}
+use Rattle.table.proofs.Held.{last-within, last-prefix}
 use Rattle.table.proofs.table.Table.search.Needs as need
 
 pub rank-end-requires : need.rank-end-requires
@@ -25,14 +24,14 @@ pub returns-in-Equal : need.returns-in-Equal
 returns-in-Equal c =
     let t = c .args .self .now in
     let p = bits (c .args .prefix) in
-    let k = ranked-at (vec-items (t .routes)) _ p (c .rank-end .result) (c .deref-2 .ensures .value) (c .rank-end .ensures) in
-    let e = prefix-at (vec-items (t .routes)) (c .rank-end .result - 1) (c .index .result .now) (last-within t p _ k (c .if-end-eq0 .left) .1) (c .index .ensures) in
-    ranked-stands (entries t) p (c .rank-end .result) k (c .if-end-eq0 .left) (c .in-Equal .ensures tt ∙ ap (λ (q : Bits). compared q p) (sym e))
+    let k = ranked-at (vec-items (t .routes)) _ p _ (c .deref-2 .ensures .value) (c .rank-end .ensures) in
+    let e = last-prefix t p _ (c .index .result .now) k (c .if-end-eq0 .left) (c .index .ensures) in
+    ranked-stands (entries t) p _ k (c .if-end-eq0 .left) (c .in-Equal .ensures tt ∙ ap (λ (q : Bits). compared q p) (sym e))
 
 pub returns-in-rest : need.returns-in-rest
 returns-in-rest c =
     let t = c .args .self .now in
     let p = bits (c .args .prefix) in
-    let k = ranked-at (vec-items (t .routes)) _ p (c .rank-end .result) (c .deref-2 .ensures .value) (c .rank-end .ensures) in
-    let e = prefix-at (vec-items (t .routes)) (c .rank-end .result - 1) (c .index .result .now) (last-within t p _ k (c .if-end-eq0 .left) .1) (c .index .ensures) in
-    ranked-missing (entries t) p (c .rank-end .result) (t .ordered) k (c .if-end-eq0 .left) (λ z. c .in-rest .not-Equal (c .compare .ensures ∙ ap (λ (q : Bits). compared q p) (sym e) ∙ z))
+    let k = ranked-at (vec-items (t .routes)) _ p _ (c .deref-2 .ensures .value) (c .rank-end .ensures) in
+    let e = last-prefix t p _ (c .index .result .now) k (c .if-end-eq0 .left) (c .index .ensures) in
+    ranked-missing (entries t) p _ (t .ordered) k (c .if-end-eq0 .left) (λ z. c .in-rest .not-Equal (c .compare .ensures ∙ ap (λ (q : Bits). compared q p) (sym e) ∙ z))

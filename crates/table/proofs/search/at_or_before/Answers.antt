@@ -10,7 +10,7 @@ use Rattle.table.specs.Routes.{entryOf, networkOf}
 use Rattle.table.specs.Search.{prefixAt}
 use Rattle.table.specs.Tables.{Entry}
 use Rattle.table.proofs.Places.{entry-at, network-at, prefix-short, key-short, by-network, by-length}
-use Rattle.table.proofs.search.comes_by.Needs as need
+use Rattle.table.proofs.search.at_or_before.Needs as need
 
 pub index-networks-place : need.index-networks-place
 index-networks-place c = omega (arith, c .pre .within, ap length (c .pre .indexed), length-map (c .args .routes .now) networkOf)
