@@ -1,0 +1,83 @@
+-- What holds of plans, for tables of any width and any addresses; each statement is a theorem. Assumes nothing.
+use mathlib.Core.Path.{_≡_}
+use mathlib.Core.Bool.{true, false}
+use mathlib.Core.List.{List}
+use mathlib.Core.Logic.{_⊎_}
+use Prim.Native.Nat.{ℕ, _+_, _<_, _≤_}
+use lib.ListN.{length}
+use Rattle.std.specs.declared.option.Option.the-variants.{Some}
+use Rattle.std.specs.Finite.{nth}
+use Rattle.prefix.specs.Bits.{Bits, Address, same}
+use Rattle.table.specs.Tables.{Entries, find, sends, distinct, sound, rising}
+use Rattle.table.specs.Laws.{SameLines}
+use Rattle.transition.specs.Writes.{Writing, target, writtenAll, moment, works}
+use Rattle.transition.specs.Plans.{changed, fresh, plan, together, Prescribed}
+
+-- a way to plan: the writes from an old table to a new one
+abbrev pub Planner : Type 0
+Planner = Entries → Entries → List Writing
+
+-- no wrong moment: after any number of writes each address goes where it went before or where it goes after
+abbrev pub NoWrongMoment : Planner → Type 0
+NoWrongMoment f = (w : ℕ) (old new : Entries) → sound w old ≡ true → sound w new ≡ true → (k : ℕ) (a : Bits) → Address w a →
+    (sends (moment (f old new) old k) a ≡ sends old a) ⊎ (sends (moment (f old new) old k) a ≡ sends new a)
+
+-- once new, always new: of any two moments, an address goes the old way at the earlier or the new way at the later.
+-- So one that no longer goes the old way goes the new way from then on
+abbrev pub OnceNew : Planner → Type 0
+OnceNew f = (w : ℕ) (old new : Entries) → sound w old ≡ true → sound w new ≡ true → (k m : ℕ) (a : Bits) → Address w a → k ≤ m →
+    (sends (moment (f old new) old k) a ≡ sends old a) ⊎ (sends (moment (f old new) old m) a ≡ sends new a)
+
+-- the same of all that a look-up finds, the length of the line too, whatever the lines of both tables are, as long as no two have the same prefix
+abbrev pub LookUpsOnce : Planner → Type 0
+LookUpsOnce f = (old new : Entries) → distinct old ≡ true → distinct new ≡ true → (k m : ℕ) (a : Bits) → k ≤ m →
+    (find (moment (f old new) old k) a ≡ find old a) ⊎ (find (moment (f old new) old m) a ≡ find new a)
+
+-- at the end the table is the new one: the same lines, and as many
+abbrev pub Ends : Type 0
+Ends = (old new : Entries) → distinct old ≡ true → distinct new ≡ true →
+    SameLines (writtenAll (plan old new) old) new × (length (writtenAll (plan old new) old) ≡ length new)
+
+-- where both tables are in the order of tables, it is the new one, line for line
+abbrev pub EndsRising : Type 0
+EndsRising = (old new : Entries) → rising old ≡ true → rising new ≡ true → writtenAll (plan old new) old ≡ new
+
+-- at no moment are there more lines than the old table and the new lines whose prefixes it hasn't
+abbrev pub NeverMore : Type 0
+NeverMore = (old new : Entries) → distinct old ≡ true → distinct new ≡ true → (k : ℕ) → length (moment (plan old new) old k) ≤ together old new
+
+-- no write is idle: each changes the table when its turn comes,
+abbrev pub NoneIdle : Type 0
+NoneIdle = (old new : Entries) → distinct old ≡ true → distinct new ≡ true →
+    (k : ℕ) (u : Writing) → nth (plan old new) k ≡ Some u → works u (moment (plan old new) old k) ≡ true
+
+-- and no prefix is written twice
+abbrev pub NoneTwice : Type 0
+NoneTwice = (old new : Entries) → distinct old ≡ true → distinct new ≡ true →
+    (j k : ℕ) (u v : Writing) → j < k → nth (plan old new) j ≡ Some u → nth (plan old new) k ≡ Some v → same (target u) (target v) ≡ false
+
+-- the plan is as the rules say, and no other list of writes is
+abbrev pub PlanIs : Type 0
+PlanIs = (old new : Entries) → distinct old ≡ true → distinct new ≡ true →
+    Prescribed old new (plan old new) × ((us : List Writing) → Prescribed old new us → us ≡ plan old new)
+
+-- how many writes it has
+abbrev pub PlanCount : Type 0
+PlanCount = (old new : Entries) → length (plan old new) ≡ length (changed old new) + length (fresh new old)
+
+-- the lines of both tables together are as many one way as the other
+abbrev pub BothWays : Type 0
+BothWays = (old new : Entries) → distinct old ≡ true → distinct new ≡ true → together old new ≡ together new old
+
+-- going over by these writes: all of this for one list of them
+pub record Smooth (old new : Entries) (us : List Writing) : Type 0 where
+  pub moments : (k : ℕ) (a : Bits) → (find (moment us old k) a ≡ find old a) ⊎ (find (moment us old k) a ≡ find new a)
+  pub once : (k m : ℕ) (a : Bits) → k ≤ m → (find (moment us old k) a ≡ find old a) ⊎ (find (moment us old m) a ≡ find new a)
+  pub end : writtenAll us old ≡ new
+  pub few : (k : ℕ) → length (moment us old k) ≤ together old new
+  pub busy : (k : ℕ) (u : Writing) → nth us k ≡ Some u → works u (moment us old k) ≡ true
+  pub apart : (j k : ℕ) (u v : Writing) → j < k → nth us j ≡ Some u → nth us k ≡ Some v → same (target u) (target v) ≡ false
+
+-- the plan between two tables in the order of tables is smooth
+abbrev pub PlanIsSmooth : Type 0
+PlanIsSmooth = (old new : Entries) → rising old ≡ true → rising new ≡ true → Smooth old new (plan old new)

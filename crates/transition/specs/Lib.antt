@@ -1,0 +1,6 @@
+pub mod Writes
+pub mod Plans
+pub mod Laws
+pub mod NearMisses
+pub mod Examples
+pub mod Model
