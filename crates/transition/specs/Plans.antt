@@ -23,13 +23,19 @@ fresh old new = kept-by (λ e. not (has (e .prefix) old)) new
 
 -- THE ORDER OF WRITES
 
--- whether p comes before q where the longest prefixes come first, and of equally long ones the lower bits
-abbrev pub longestFirst : Bits → Bits → Bool
-longestFirst p q = ltb (length q) (length p) || (eqb (length p) (length q) && before p q)
+-- whether p comes before q, where a test says which lengths come first, and of equally long ones the lower bits do
+abbrev pub byLength : (ℕ → ℕ → Bool) → Bits → Bits → Bool
+byLength first p q = first (length p) (length q) || (eqb (length p) (length q) && before p q)
 
--- the same where the shortest come first
+-- the longest first, or the shortest first
+abbrev pub longer : ℕ → ℕ → Bool
+longer m n = ltb n m
+
+abbrev pub longestFirst : Bits → Bits → Bool
+longestFirst p q = byLength longer p q
+
 abbrev pub shortestFirst : Bits → Bits → Bool
-shortestFirst p q = ltb (length p) (length q) || (eqb (length p) (length q) && before p q)
+shortestFirst p q = byLength ltb p q
 
 -- a line put before the first that it comes before, in an order of prefixes
 unfoldable pub insertBy : (Bits → Bits → Bool) → Entry → Entries → Entries

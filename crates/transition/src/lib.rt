@@ -3,6 +3,13 @@ mod laws;
 mod refusal;
 mod write;
 
+pub use laws::lines_are_bounded;
+pub use laws::near_misses_are_wrong;
+pub use laws::no_write_is_idle;
+pub use laws::no_wrong_moment;
+pub use laws::plan_ends_in_new;
+pub use laws::plan_is_prescribed;
+pub use laws::plan_is_smooth;
 pub use laws::plans_by_example;
 pub use refusal::Refusal;
 pub use refusal::RefusalDebug;
