@@ -6,7 +6,7 @@ use Prim.Native.Nat.{ℕ, _<_}
 use native.Mathlib.Omega.{arith}
 use lib.Dec.{eqb, ltb}
 use lib.ListN.{length}
-use Rattle.std.proofs.shelf.Tests.{cases-eq, or-cases, or-parts, or-from, or-left, or-right, and-parts, and-from, and-cases, and-left, and-right, both-ways, eqb-true, eq-eqb, ne-eqb, ltb-true}
+use Rattle.std.proofs.shelf.Tests.{cases-bool, cases-eq, or-cases, or-parts, or-from, or-left, or-right, and-parts, and-from, and-cases, and-left, and-right, both-ways, eqb-true, eq-eqb, ne-eqb, ltb-true}
 use Rattle.std.proofs.shelf.Ways.{tells}
 use Rattle.prefix.specs.Bits.{Bits, same, before}
 use Rattle.prefix.proofs.Order.{before-irrefl, before-trans, before-other}
@@ -56,14 +56,10 @@ module _ (first : ℕ → ℕ → Bool) (strict : Strict first) where
     where
       off : first (length p) (length q) ≡ false
       off =
-          elim (cases-of (first (length p) (length q))) [
+          elim (cases-bool (first (length p) (length q))) [
             | inl y ↦ absurd (both-ways (first (length p) (length p)) (strict .irrefl (length p)) (strict .trans (length p) (length q) (length p) y h))
             | inr y ↦ y
           ]
-        where
-          cases-of : (b : Bool) → (b ≡ true) ⊎ (b ≡ false)
-          cases-of true = inl refl
-          cases-of false = inr refl
 
   pub order-irrefl : (p : Bits) → byLength first p p ≡ false
   order-irrefl p = or-from _ _ (strict .irrefl (length p)) (and-right (eqb (length p) (length p)) (before p p) (before-irrefl p))

@@ -1,8 +1,11 @@
 // Going over from one table to another: writes, plans of them, and no wrong moment.
+mod count;
+mod fill;
 mod laws;
 mod refusal;
 mod write;
 
+pub use count::plan_len;
 pub use laws::lines_are_bounded;
 pub use laws::near_misses_are_wrong;
 pub use laws::no_write_is_idle;
