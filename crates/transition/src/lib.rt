@@ -2,6 +2,7 @@
 mod count;
 mod fill;
 mod laws;
+mod plan;
 mod refusal;
 mod write;
 
@@ -14,6 +15,7 @@ pub use laws::plan_ends_in_new;
 pub use laws::plan_is_prescribed;
 pub use laws::plan_is_smooth;
 pub use laws::plans_by_example;
+pub use plan::plan_into;
 pub use refusal::Refusal;
 pub use refusal::RefusalDebug;
 pub use refusal::RefusalEq;
