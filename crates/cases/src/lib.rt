@@ -1,5 +1,10 @@
-// Tests of prefixes and tables on worked examples.
+// Worked cases as theorems, and tests of the libraries on examples.
+#[cfg(test)]
+mod plans;
 #[cfg(test)]
 mod prefixes;
+mod rows;
 #[cfg(test)]
 mod tables;
+
+pub use rows::worked_cases_hold;
