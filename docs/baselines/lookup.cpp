@@ -1,4 +1,4 @@
-// The look-ups of crates/bench_lookup in plain C++, to compare with: the same table and addresses, a sorted vector of keys,
+// The look-ups of crates/bench in plain C++, to compare with: the same table and addresses, a sorted vector of keys,
 // and for each length from 32 down one binary search. Prints the same check sum, and the time.
 // g++ -O3 -o /tmp/lookup docs/baselines/lookup.cpp && /tmp/lookup
 #include <algorithm>

@@ -6,6 +6,7 @@ mod methods;
 mod part;
 mod shift;
 
+pub use cidr::LENGTHS;
 pub use cidr::Prefix;
 pub use cidr::PrefixDebug;
 pub use cidr::PrefixEq;

@@ -1,28 +1,27 @@
 -- The end of a plan, how many lines there are on the way, and that no write is idle. Assumes nothing.
 use mathlib.Core.Path.{_≡_, refl, sym, ap, ap₂, _∙_}
-use mathlib.Core.Logic.{_⊎_, inl, inr}
-use mathlib.Core.Bool.{Bool, true, false, cond, not, _&&_, _||_}
+use mathlib.Core.Logic.{inl, inr}
+use mathlib.Core.Bool.{Bool, true, false, cond, not, _||_}
 use mathlib.Core.List.{List, [], _∷_, _++_, map}
-use Prim.Native.Nat.{ℕ, zero, suc, _+_, _-_, _<_, _≤_}
+use Prim.Native.Nat.{ℕ, _+_, _-_}
 use native.Mathlib.Omega.{arith}
-use lib.ListN.{length, take, drop}
+use lib.ListN.{length, take}
 use Rattle.std.specs.declared.option.Option.{Option}
 use Rattle.std.specs.declared.option.Option.the-variants.{Some, None}
 use Rattle.std.specs.Options.{isSome}
-use Rattle.std.specs.shelf.Lists.{kept-by}
 use Rattle.std.proofs.shelf.Lists.{take-all, length-map, length-append}
-use Rattle.std.proofs.shelf.Tests.{cases-bool, both-ways, or-cases, or-left, or-right, or-from, cond-false}
-use Rattle.prefix.specs.Bits.{Bits, same}
+use Rattle.std.proofs.shelf.Tests.{cases-bool, both-ways, or-left, or-right, or-from}
+use Rattle.prefix.specs.Bits.{Bits}
 use Rattle.prefix.proofs.Strings.{same-refl}
-use Rattle.table.specs.Tables.{Entry, Entries, has, holds, distinct, rising, at, put}
+use Rattle.table.specs.Tables.{Entry, Entries, has, distinct, rising, at}
 use Rattle.table.specs.Laws.{SameLines}
 use Rattle.table.proofs.Counts.{distinct-parts, distinct-from}
 use Rattle.table.proofs.Rising.{rising-distinct, rising-put, rising-without}
 use Rattle.table.proofs.Alike.{rising-once}
 use Rattle.transition.specs.Writes.{Writing, Put, Drop, written, writtenAll, moment}
-use Rattle.transition.specs.Plans.{changed, fresh, longestFirst, shortestFirst, dropping, plan, together}
+use Rattle.transition.specs.Plans.{changed, fresh, longestFirst, shortestFirst, dropping, plan}
 use Rattle.transition.specs.Laws.{Ends, EndsRising, NeverMore, PlanCount, BothWays}
-use Rattle.transition.proofs.Lines.{alt, has-at, at-none, same-lines, distinct-all, has-append, has-take, has-kept, distinct-kept, has-sorted, length-sorted, covered, as-many}
+use Rattle.transition.proofs.Lines.{alt, has-at, same-lines, distinct-all, has-append, has-take, distinct-kept, length-sorted, covered, as-many}
 use Rattle.transition.proofs.Overlays.{putting, leaving, changedOf, freshOf, moment-at, putting-at, ended, fresh-at}
 
 pub plan-count : PlanCount

@@ -1,20 +1,20 @@
 -- Filling the front of a slice with the writes of a plan, length by length. Assumes nothing.
 use mathlib.Core.Path.{_≡_, refl, sym, ap, subst, _∙_}
 use mathlib.Core.Logic.{_⊎_, inl, inr}
-use mathlib.Core.Bool.{Bool, true, false, cond, not, _&&_}
+use mathlib.Core.Bool.{Bool, true, false, _&&_}
 use mathlib.Core.List.{List, [], _∷_, _++_, map, append-assoc, append-nil}
 use Prim.Native.Nat.{ℕ, zero, suc, _+_, _-_, _<_, _≤_}
 use native.Mathlib.Omega.{arith}
 use lib.Dec.{eqb, leb}
-use lib.ListN.{length, take, drop, getD, set, length-append, length-take, length-set}
+use lib.ListN.{length, take, drop, getD, set, length-append, length-set}
 use lib.Seq.{drop-set-lt, drop-drop}
-use Rattle.std.specs.shelf.Lists.{All, kept-by}
+use Rattle.std.specs.shelf.Lists.{kept-by}
 use Rattle.std.proofs.shelf.Elements.{all-kept-by}
 use Rattle.std.proofs.shelf.Lists.{at-drop-more, at-drop-all, take-more-set, length-map, length-take-le, map-push, nil-from-length}
-use Rattle.std.proofs.shelf.Tests.{cond-both, cond-true, cond-false, eq-eqb, ne-eqb, and-parts, leb-true}
+use Rattle.std.proofs.shelf.Tests.{cond-both, cond-false, eq-eqb, ne-eqb, and-parts, leb-true}
 use Rattle.table.specs.declared.table.Table.{Table}
 use Rattle.table.specs.declared.route.Route.{Route}
-use Rattle.table.specs.Tables.{Entry, Entries, every, fits, rising, leads, distinct, has, holds}
+use Rattle.table.specs.Tables.{Entry, Entries, every, fits, rising, distinct}
 use Rattle.table.specs.Routes.{entryOf}
 use Rattle.table.specs.Model.{entries}
 use Rattle.table.proofs.Picks.{every-parts, every-from}

@@ -1,18 +1,18 @@
 -- A slice filled in two parts, the second in the free end that the first left; and what a plan is refused by. Assumes nothing.
-use mathlib.Core.Path.{_≡_, refl, sym, ap, ap₂, subst, _∙_}
+use mathlib.Core.Path.{_≡_, sym, ap, ap₂, subst, _∙_}
 use mathlib.Core.Bool.{true, false, cond}
-use mathlib.Core.List.{List, [], _∷_, _++_, map, append-nil}
+use mathlib.Core.List.{List, [], _++_, append-nil}
 use Prim.Native.Nat.{ℕ, _+_, _-_, _<_, _≤_}
 use native.Mathlib.Omega.{arith}
 use lib.Dec.{ltb}
-use lib.ListN.{length, take, drop, length-drop}
+use lib.ListN.{length, take, drop}
 use lib.Seq.{drop-drop, take-append-add, drop-append-add}
 use borrow.Rule.Slice.PartMut.{putMid, postOf, post-is}
 use mathlib.Core.Logic.{inl, inr}
 use Rattle.std.specs.declared.option.Option.{Option}
 use Rattle.std.specs.declared.option.Option.the-variants.{Some, None}
 use Rattle.std.proofs.shelf.Lists.{take-rest, drop-all, length-take-le, map-append}
-use Rattle.std.proofs.shelf.Tests.{cond-true, cond-false, lt-ltb, le-ltb, ltb-true, ltb-false, cases-bool}
+use Rattle.std.proofs.shelf.Tests.{cond-true, cond-false, lt-ltb, le-ltb, cases-bool}
 use Rattle.table.specs.Tables.{Entries, rising}
 use Rattle.transition.specs.declared.write.Write.{Write}
 use Rattle.transition.specs.Writes.{Writing}

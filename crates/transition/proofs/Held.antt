@@ -1,17 +1,16 @@
 -- Tables of the code: what they hold, and the steps of going through their routes. Assumes nothing.
 use mathlib.Core.Path.{_≡_, refl, sym, ap, _∙_}
-use mathlib.Core.Logic.{_⊎_, inl, inr}
 use mathlib.Core.Bool.{Bool, true, false, cond, not}
-use mathlib.Core.List.{List, [], _∷_, _++_, map}
-use Prim.Native.Nat.{ℕ, zero, suc, _+_, _-_, _<_, _≤_}
+use mathlib.Core.List.{List, _∷_, map}
+use Prim.Native.Nat.{ℕ, _+_, _<_, _≤_}
 use native.Mathlib.Omega.{arith}
 use lib.Dec.{eqb}
-use lib.ListN.{length, take, drop, getD}
+use lib.ListN.{length, drop, getD}
 use Rattle.std.specs.declared.option.Option.the-variants.{Some, None}
 use Rattle.std.specs.shelf.Lists.{kept-by}
 use Rattle.std.specs.Options.{isSome}
 use Rattle.std.proofs.shelf.Lists.{at-drop-more, drop-all}
-use Rattle.std.proofs.shelf.Tests.{cond-true, cond-false, le-ltb, lt-ltb, eq-eqb, ne-eqb}
+use Rattle.std.proofs.shelf.Tests.{cond-false, le-ltb, eq-eqb, ne-eqb}
 use Rattle.std.proofs.shelf.Ways.{tells}
 use Rattle.std.proofs.shelf.Filters.{length-kept-by-both}
 use Rattle.table.specs.declared.table.Table.{Table}
@@ -132,6 +131,3 @@ balance old new =
 
 pub refused-none : (old new : Entries) → together old new ≤ 16384 → None ≡ refusal old new
 refused-none old new h = sym (cond-false (crowded old new) (Some 7) None (le-ltb 16384 (together old new) h))
-
-pub refused-seven : (old new : Entries) → 16384 < together old new → Some 7 ≡ refusal old new
-refused-seven old new h = sym (cond-true (crowded old new) (Some 7) None (lt-ltb 16384 (together old new) h))

@@ -1,23 +1,21 @@
 -- No write of a plan is idle, and no prefix is written twice. Assumes nothing.
-use mathlib.Core.Path.{_≡_, refl, sym, ap, ap₂, _∙_}
+use mathlib.Core.Path.{_≡_, refl, sym, ap, _∙_}
 use mathlib.Core.Logic.{_⊎_, inl, inr}
-use mathlib.Core.Bool.{Bool, true, false, cond, not, _||_}
-use mathlib.Core.List.{List, [], _∷_, _++_, map}
-use Prim.Native.Nat.{ℕ, zero, suc, _+_, _-_, _<_, _≤_}
+use mathlib.Core.Bool.{true, false}
+use mathlib.Core.List.{[], _∷_, _++_, map}
+use Prim.Native.Nat.{ℕ, zero, suc, _-_, _<_, _≤_}
 use native.Mathlib.Omega.{arith}
-use lib.Dec.{eqb}
 use lib.ListN.{length, take}
 use Rattle.std.specs.declared.option.Option.{Option}
 use Rattle.std.specs.declared.option.Option.the-variants.{Some, None}
 use Rattle.std.specs.Finite.{nth}
 use Rattle.std.specs.Options.{isSome}
 use Rattle.std.proofs.shelf.Tests.{cases-bool, both-ways, or-left, or-right, or-from, cond-true, cond-false, not-from-false}
-use Rattle.prefix.specs.Bits.{Bits, same}
+use Rattle.prefix.specs.Bits.{same}
 use Rattle.prefix.proofs.Strings.{same-eq, same-refl}
-use Rattle.prefix.proofs.Order.{differ-turn}
 use Rattle.table.specs.Tables.{Entry, Entries, has, holds, distinct, pick, at}
 use Rattle.table.proofs.Counts.{distinct-parts}
-use Rattle.transition.specs.Writes.{Writing, Put, Drop, target, writtenAll, moment, works}
+use Rattle.transition.specs.Writes.{Writing, Put, moment, works}
 use Rattle.transition.specs.Plans.{dropping, plan}
 use Rattle.transition.specs.Laws.{NoneIdle, NoneTwice}
 use Rattle.transition.proofs.Lines.{alt, isHop, has-at, at-none, holds-at, distinct-all}
@@ -32,12 +30,12 @@ nth-has [] k e h = let z : _≡_ {A = ℕ} 0 1 = cc in absurd (omega arith)
 nth-has (x ∷ xs) zero e h = let z : x ≡ e = cc in or-left (same (e .prefix) (x .prefix)) (has (e .prefix) xs) (rw z (same-refl (e .prefix)))
 nth-has (x ∷ xs) (suc k) e h = or-right _ _ (nth-has xs k e h)
 
-taken-has : (es : Entries) (j k : ℕ) (e : Entry) → j < k → nth es j ≡ Some e → has (e .prefix) (take k es) ≡ true
+nth-taken : (es : Entries) (j k : ℕ) (e : Entry) → j < k → nth es j ≡ Some e → has (e .prefix) (take k es) ≡ true
 unfolding has
-taken-has es j zero e l h = absurd (omega arith)
-taken-has [] j (suc k) e l h = let z : _≡_ {A = ℕ} 0 1 = cc in absurd (omega arith)
-taken-has (x ∷ xs) zero (suc k) e l h = let z : x ≡ e = cc in or-left (same (e .prefix) (x .prefix)) (has (e .prefix) (take k xs)) (rw z (same-refl (e .prefix)))
-taken-has (x ∷ xs) (suc j) (suc k) e l h = or-right _ _ (taken-has xs j k e (omega arith) h)
+nth-taken es j zero e l h = absurd (omega arith)
+nth-taken [] j (suc k) e l h = let z : _≡_ {A = ℕ} 0 1 = cc in absurd (omega arith)
+nth-taken (x ∷ xs) zero (suc k) e l h = let z : x ≡ e = cc in or-left (same (e .prefix) (x .prefix)) (has (e .prefix) (take k xs)) (rw z (same-refl (e .prefix)))
+nth-taken (x ∷ xs) (suc j) (suc k) e l h = or-right _ _ (nth-taken xs j k e (omega arith) h)
 
 other-first : (x : Entry) (xs : Entries) (k : ℕ) (e : Entry) → has (x .prefix) xs ≡ false → nth xs k ≡ Some e → same (e .prefix) (x .prefix) ≡ false
 other-first x xs k e n h =
@@ -65,7 +63,7 @@ nth-at (x ∷ xs) (suc k) e d h =
 apart-in : (es : Entries) (j k : ℕ) (e f : Entry) → distinct es ≡ true → j < k → nth es j ≡ Some e → nth es k ≡ Some f → same (e .prefix) (f .prefix) ≡ false
 apart-in es j k e f d l h g =
     elim (cases-bool (same (e .prefix) (f .prefix))) [
-      | inl y ↦ absurd (both-ways (has (f .prefix) (take k es)) (none-before es k f d g) (rw (← same-eq (e .prefix) (f .prefix) y) (taken-has es j k e l h)))
+      | inl y ↦ absurd (both-ways (has (f .prefix) (take k es)) (none-before es k f d g) (rw (← same-eq (e .prefix) (f .prefix) y) (nth-taken es j k e l h)))
       | inr y ↦ y
     ]
 

@@ -1,21 +1,21 @@
 -- What stands at a prefix, in tables that are filtered or sorted, and how many lines there are. Assumes nothing.
 use mathlib.Core.Path.{_≡_, refl, sym, ap, _∙_}
 use mathlib.Core.Logic.{inl, inr}
-use mathlib.Core.Bool.{Bool, true, false, cond, not, _&&_, _||_}
+use mathlib.Core.Bool.{Bool, true, false, cond, _||_}
 use mathlib.Core.List.{List, [], _∷_, _++_}
-use Prim.Native.Nat.{ℕ, zero, suc, _+_, _≤_}
+use Prim.Native.Nat.{ℕ, zero, suc, _≤_}
 use native.Mathlib.Omega.{arith}
 use lib.Dec.{eqb}
-use lib.ListN.{length, take, drop}
+use lib.ListN.{length, take}
 use Rattle.std.specs.declared.option.Option.{Option}
 use Rattle.std.specs.declared.option.Option.the-variants.{Some, None}
 use Rattle.std.specs.Options.{isSome}
 use Rattle.std.specs.shelf.Lists.{kept-by}
-use Rattle.std.proofs.shelf.Tests.{cond-both, cases-bool, or-cases, or-parts, or-from, or-left, or-right, both-ways, cond-true, cond-false, eqb-true}
-use Rattle.prefix.specs.Bits.{Bits, same, before}
+use Rattle.std.proofs.shelf.Tests.{cond-both, cases-bool, or-cases, or-parts, or-from, or-left, or-right, both-ways, cond-true, cond-false}
+use Rattle.prefix.specs.Bits.{Bits, same}
 use Rattle.prefix.proofs.Strings.{same-eq, same-refl}
 use Rattle.prefix.proofs.Order.{differ-turn}
-use Rattle.table.specs.Tables.{Entry, Entries, has, distinct, pick, at, without, put, holds}
+use Rattle.table.specs.Tables.{Entry, Entries, has, distinct, pick, at, without, holds}
 use Rattle.table.specs.Laws.{SameLines}
 use Rattle.table.proofs.Picks.{has-without, at-without}
 use Rattle.table.proofs.Counts.{distinct-parts, distinct-from, distinct-insert, distinct-without}

@@ -2,24 +2,23 @@
 use mathlib.Core.Path.{_≡_, refl, sym, ap, ap₂, _∙_}
 use mathlib.Core.Logic.{_⊎_, inl, inr}
 use mathlib.Core.Bool.{Bool, true, false, cond, not, _||_}
-use mathlib.Core.List.{List, [], _∷_, _++_}
+use mathlib.Core.List.{[], _∷_}
 use Prim.Native.Nat.{ℕ, zero, suc, _+_, _-_, _<_, _≤_}
 use native.Mathlib.Omega.{arith}
 use lib.ListN.{length, take, drop}
 use Rattle.std.specs.declared.option.Option.{Option}
 use Rattle.std.specs.declared.option.Option.the-variants.{Some, None}
-use Rattle.std.specs.Options.{isSome}
 use Rattle.std.proofs.shelf.Lists.{take-all, drop-all, take-take, take-append-drop, drop-drop}
 use Rattle.std.proofs.shelf.Tests.{cases-lt, cond-false, and-parts}
-use Rattle.prefix.specs.Bits.{Bits, Address, same}
-use Rattle.table.specs.Tables.{Entry, Entries, find, sends, hopOf, has, holds, distinct, fits, sound, pick, at, seen, top}
+use Rattle.prefix.specs.Bits.{Bits, same}
+use Rattle.table.specs.Tables.{Entries, find, hopOf, has, holds, distinct, fits, sound, pick, at, seen, top}
 use Rattle.table.proofs.Picks.{seen-at}
 use Rattle.table.proofs.Tops.{topmost}
 use Rattle.transition.specs.Writes.{moment}
 use Rattle.transition.specs.Plans.{changed, fresh, plan}
 use Rattle.transition.specs.Laws.{NoWrongMoment, OnceNew, LookUpsOnce}
-use Rattle.transition.proofs.Lines.{alt, has-at, at-none, has-append, distinct-kept}
-use Rattle.transition.proofs.Overlays.{putting, leaving, distinct-putting, moment-at, overlay, ended}
+use Rattle.transition.proofs.Lines.{alt, at-none, has-append, distinct-kept}
+use Rattle.transition.proofs.Overlays.{putting, leaving, moment-at, overlay, ended}
 use Rattle.transition.proofs.Stages.{Stage, top-upto, between}
 use Rattle.transition.proofs.Reach.{reach, reach-take, reach-drop, past-reach, within-reach, Farther, pairs-split, all-turned}
 use Rattle.transition.proofs.Orders.{longest-pairs, shortest-pairs}

@@ -1,8 +1,8 @@
 -- The orders of writes, by length and then by bits, are strict and total. Assumes nothing.
-use mathlib.Core.Path.{_≡_, refl, sym, ap, _∙_}
+use mathlib.Core.Path.{_≡_, sym, _∙_}
 use mathlib.Core.Logic.{_⊎_, inl, inr}
-use mathlib.Core.Bool.{Bool, true, false, _&&_, _||_}
-use Prim.Native.Nat.{ℕ, _<_}
+use mathlib.Core.Bool.{Bool, true, false, _&&_}
+use Prim.Native.Nat.{ℕ}
 use native.Mathlib.Omega.{arith}
 use lib.Dec.{eqb, ltb}
 use lib.ListN.{length}
@@ -10,7 +10,7 @@ use Rattle.std.proofs.shelf.Tests.{cases-bool, cases-eq, or-cases, or-parts, or
 use Rattle.std.proofs.shelf.Ways.{tells}
 use Rattle.prefix.specs.Bits.{Bits, same, before}
 use Rattle.prefix.proofs.Order.{before-irrefl, before-trans, before-other}
-use Rattle.table.specs.Tables.{Entry, Entries, distinct}
+use Rattle.table.specs.Tables.{Entries, distinct}
 use Rattle.transition.specs.Plans.{byLength, longer, longestFirst, shortestFirst, sortedBy}
 use Rattle.transition.proofs.Reach.{Farther, Pairs, sorted-pairs, pairs-map}
 

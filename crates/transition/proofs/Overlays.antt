@@ -1,25 +1,25 @@
 -- What stands at a prefix after some of a plan's writes. Assumes nothing.
 use mathlib.Core.Path.{_≡_, refl, sym, ap, ap₂, _∙_}
 use mathlib.Core.Logic.{inl, inr}
-use mathlib.Core.Bool.{Bool, true, false, cond, not, _&&_, _||_}
+use mathlib.Core.Bool.{Bool, true, false, cond, not, _||_}
 use mathlib.Core.List.{List, [], _∷_, _++_, map}
-use Prim.Native.Nat.{ℕ, zero, suc, _+_, _-_, _≤_}
+use Prim.Native.Nat.{ℕ, zero, suc, _-_}
 use native.Mathlib.Omega.{arith}
 use lib.Dec.{eqb}
-use lib.ListN.{length, take, drop}
+use lib.ListN.{length, take}
 use Rattle.std.specs.declared.option.Option.{Option}
 use Rattle.std.specs.declared.option.Option.the-variants.{Some, None}
 use Rattle.std.specs.Options.{isSome}
 use Rattle.std.proofs.shelf.Lists.{take-map, length-map}
-use Rattle.std.proofs.shelf.Tests.{cases-bool, cond-true, cond-false, eqb-true, eq-eqb}
+use Rattle.std.proofs.shelf.Tests.{cases-bool, cond-true, cond-false, eqb-true}
 use Rattle.prefix.specs.Bits.{Bits, same}
 use Rattle.prefix.proofs.Strings.{same-eq}
-use Rattle.table.specs.Tables.{Entry, Entries, has, distinct, pick, at, holds, put}
+use Rattle.table.specs.Tables.{Entries, has, distinct, pick, at, holds, put}
 use Rattle.table.proofs.Picks.{at-put, at-without}
 use Rattle.table.proofs.Counts.{distinct-parts}
-use Rattle.transition.specs.Writes.{Writing, Put, Drop, written, writtenAll, moment}
+use Rattle.transition.specs.Writes.{Writing, Put, written, writtenAll, moment}
 use Rattle.transition.specs.Plans.{changed, fresh, longestFirst, shortestFirst, sortedBy, dropping, plan}
-use Rattle.transition.proofs.Lines.{alt, isHop, passed, has-at, at-none, holds-at, distinct-take, distinct-kept, at-kept, at-sorted, distinct-sorted, has-sorted}
+use Rattle.transition.proofs.Lines.{alt, isHop, passed, has-at, at-none, holds-at, distinct-take, distinct-kept, at-kept, at-sorted, distinct-sorted}
 
 -- some writes and then others
 pub written-append : (us vs : List Writing) (t : Entries) → writtenAll (us ++ vs) t ≡ writtenAll vs (writtenAll us t)

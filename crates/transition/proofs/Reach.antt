@@ -1,22 +1,21 @@
 -- How far the lines reach with which an address begins, in lists where the longest or the shortest come first. Assumes nothing.
 use mathlib.Core.Path.{_≡_, refl, sym, ap, _∙_}
 use mathlib.Core.Logic.{_⊎_, inl, inr}
-use mathlib.Core.Bool.{Bool, true, false, cond, _&&_, _||_}
-use mathlib.Core.List.{List, [], _∷_}
-use Prim.Native.Nat.{ℕ, zero, suc, max, _+_, _<_, _≤_}
+use mathlib.Core.Bool.{Bool, true, false, cond}
+use mathlib.Core.List.{[], _∷_}
+use Prim.Native.Nat.{ℕ, zero, suc, max, _<_, _≤_}
 use native.Mathlib.Omega.{arith}
-use lib.Dec.{eqb, ltb}
 use lib.ListN.{length, take, drop}
 use Rattle.std.specs.shelf.Lists.{All}
 use Rattle.std.proofs.shelf.Elements.{all-weaker, all-drop}
 use Rattle.std.proofs.shelf.Lists.{length-take-le}
-use Rattle.std.proofs.shelf.Tests.{cond-both, cases-bool, cases-lt, cases-eq, or-cases, or-from, and-parts, both-ways, ltb-true, ltb-false, ltb-true, eqb-true, or-parts, and-cases, eqb-false}
-use Rattle.prefix.specs.Bits.{Bits, begins, same, before}
+use Rattle.std.proofs.shelf.Tests.{cond-both, cases-bool, cases-lt, or-from, or-parts}
+use Rattle.prefix.specs.Bits.{Bits, begins, same}
 use Rattle.prefix.proofs.Strings.{same-eq}
-use Rattle.prefix.proofs.Order.{before-irrefl, before-total, begins-is, begins-first}
+use Rattle.prefix.proofs.Order.{begins-is, begins-first}
 use Rattle.table.specs.Tables.{Entry, Entries, has, distinct}
 use Rattle.table.proofs.Counts.{distinct-parts}
-use Rattle.transition.specs.Plans.{longestFirst, shortestFirst, insertBy, sortedBy}
+use Rattle.transition.specs.Plans.{insertBy, sortedBy}
 use Rattle.transition.proofs.Lines.{has-sorted}
 
 -- one more than the length of the longest of these lines with which an address begins; 0 where there is none

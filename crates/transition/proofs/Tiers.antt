@@ -1,7 +1,7 @@
 -- Lines of a table in order, gone through length by length, come sorted by length and then by bits. Assumes nothing.
 use mathlib.Core.Path.{_≡_, refl, sym, ap, _∙_}
 use mathlib.Core.Logic.{_⊎_, inl, inr}
-use mathlib.Core.Bool.{Bool, true, false, cond}
+use mathlib.Core.Bool.{Bool, true, false}
 use mathlib.Core.List.{List, [], _∷_, _++_}
 use Prim.Native.Nat.{ℕ, zero, suc, _+_, _<_, _≤_}
 use native.Mathlib.Omega.{arith}
@@ -12,7 +12,7 @@ use Rattle.std.proofs.shelf.Elements.{all-append, all-weaker}
 use Rattle.std.proofs.shelf.Tests.{cases-eq, cond-both, both-ways, eq-eqb, ne-eqb, eqb-true}
 use Rattle.std.proofs.shelf.Ways.{tells}
 use Rattle.prefix.specs.Bits.{Bits, before}
-use Rattle.table.specs.Tables.{Entry, Entries, leads, rising, every}
+use Rattle.table.specs.Tables.{Entry, Entries, leads, rising}
 use Rattle.table.proofs.Rising.{leads-parts, rising-parts}
 use Rattle.transition.specs.Plans.{byLength, longer, insertBy, sortedBy}
 use Rattle.transition.proofs.Orders.{Strict, longer-strict, shorter-strict, by-first, by-bits, not-first}

@@ -1,17 +1,15 @@
 -- The plan is as the rules say, and it is the only list of writes that is. Assumes nothing.
 use mathlib.Core.Path.{_≡_, refl, sym, ap, ap₂, subst, _∙_}
-use mathlib.Core.Logic.{_⊎_, inl, inr}
-use mathlib.Core.Bool.{Bool, true, false, cond, not, _&&_, _||_}
+use mathlib.Core.Logic.{inl, inr}
+use mathlib.Core.Bool.{Bool, true, false, not, _&&_, _||_}
 use mathlib.Core.List.{List, [], _∷_, _++_, map}
-use Prim.Native.Nat.{ℕ, _+_}
-use native.Mathlib.Omega.{arith}
+use Prim.Native.Nat.{ℕ}
 use lib.Dec.{eqb, ltb}
-use lib.ListN.{length}
 use Rattle.std.specs.declared.option.Option.{Option}
 use Rattle.std.specs.declared.option.Option.the-variants.{Some, None}
 use Rattle.std.specs.Options.{isSome}
 use Rattle.std.specs.shelf.Lists.{All}
-use Rattle.std.proofs.shelf.Tests.{cases-bool, both-ways, or-cases, or-left, or-right, or-from, and-parts, and-from, eqb-true, eq-eqb, cond-both}
+use Rattle.std.proofs.shelf.Tests.{cases-bool, both-ways, or-cases, or-left, and-parts, and-from, eqb-true, eq-eqb}
 use Rattle.prefix.specs.Bits.{Bits, same}
 use Rattle.prefix.proofs.Strings.{same-eq, same-refl}
 use Rattle.table.specs.Tables.{Entry, Entries, has, holds, distinct, at}
@@ -24,10 +22,6 @@ use Rattle.transition.proofs.Reach.{Pairs}
 use Rattle.transition.proofs.Orders.{longer-strict, shorter-strict, order-trans, order-irrefl, order-sorted}
 
 -- which writes there are
-
-or-none : (b : Bool) → (b || false) ≡ b
-or-none true = refl
-or-none false = refl
 
 among-drops : (e : Entry) (fs : Entries) → among (Put e) (map dropping fs) ≡ false
 unfolding among

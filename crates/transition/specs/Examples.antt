@@ -2,7 +2,6 @@
 use mathlib.Core.Path.{_≡_}
 use mathlib.Core.Bool.{true, false}
 use mathlib.Core.List.{List, [], _∷_}
-use Prim.Native.Nat.{ℕ}
 use Rattle.table.specs.Examples.{line}
 use Rattle.table.specs.Tables.{Entries, sends}
 use Rattle.transition.specs.Writes.{Writing, Put, Drop, writtenAll, moment, works}

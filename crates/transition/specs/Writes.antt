@@ -1,5 +1,4 @@
 -- Writes to a device's table, and what it holds between any two of them, for any width of addresses. Assumes nothing.
-use mathlib.Core.Path.{_≡_}
 use mathlib.Core.Bool.{Bool, not}
 use mathlib.Core.List.{List, [], _∷_}
 use Prim.Native.Nat.{ℕ}

@@ -5,6 +5,7 @@ ghost use Rattle.std.specs.Options.{mapped};
 ghost use Rattle.std.specs.Results.{errPart};
 ghost use Rattle.std.specs.Vec.{made};
 ghost use Rattle.prefix.specs.Model.{bits};
+ghost use Rattle.table.specs.Limits.{deviceLimit};
 ghost use Rattle.table.specs.Model.{entries};
 ghost use Rattle.table.specs.Routes.{entryOf};
 ghost use Rattle.table.specs.Tables.{has, holds};
@@ -69,8 +70,8 @@ fn count_differing(old: &Table, new: &Table) -> Differing
 pub(crate) struct Extent {
     pub(crate) puts: usize,
     pub(crate) drops: usize,
-    ghost few: { puts ≤ 16384 },
-    ghost small: { drops ≤ 16384 },
+    ghost few: { puts ≤ deviceLimit },
+    ghost small: { drops ≤ deviceLimit },
 }
 
 // How many puts and drops it takes to go over from one table to another. Refused where the old lines and

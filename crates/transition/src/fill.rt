@@ -7,6 +7,7 @@ ghost use Rattle.transition.specs.Plans.{changed, drops, fresh, puts};
 use crate::count::has_prefix;
 use crate::count::has_route;
 use crate::write::Write;
+use prefix::LENGTHS;
 use table::Table;
 
 // Writes the puts of a plan to the front of a slice, the longest first, of equally long ones the lower bits first; there are `count` of them.
@@ -19,7 +20,7 @@ pub(crate) fn fill_puts(old: &Table, new: &Table, count: usize, out: &mut [Write
 {
     let routes = new.routes();
     let mut n = 0;
-    'lengths: for len in (0..33u8).rev() {
+    'lengths: for len in (0..LENGTHS).rev() {
         'routes: for route in routes {
             if n == count {
                 break 'lengths;
@@ -42,7 +43,7 @@ pub(crate) fn fill_drops(old: &Table, new: &Table, count: usize, out: &mut [Writ
 {
     let routes = old.routes();
     let mut n = 0;
-    'lengths: for len in 0..33u8 {
+    'lengths: for len in 0..LENGTHS {
         'routes: for route in routes {
             if n == count {
                 break 'lengths;

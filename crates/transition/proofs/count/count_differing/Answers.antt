@@ -1,4 +1,3 @@
-use mathlib.Core.Path.{sym}
 use Rattle.table.specs.Model.{entries}
 use Rattle.transition.proofs.Held.{counting-none, counting-other, counting-same, counting-new, counting-all}
 use Rattle.transition.proofs.count.count_differing.Needs as need

@@ -1,5 +1,4 @@
 use mathlib.Core.Path.{sym, ap, _∙_}
-use Rattle.table.specs.Model.{entries}
 use Rattle.table.specs.Routes.{entryOf}
 use Rattle.transition.proofs.Lines.{isHop}
 use Rattle.transition.proofs.Held.{held-at, same-turn}

@@ -1,7 +1,6 @@
-use mathlib.Core.Path.{sym}
 use native.Mathlib.Omega.{arith}
 use Rattle.table.specs.Model.{entries}
-use Rattle.transition.proofs.Held.{balance, refused-none, refused-seven}
+use Rattle.transition.proofs.Held.{balance, refused-none}
 use Rattle.transition.proofs.count.measure.Needs as need
 
 pub sub-result : need.sub-result
