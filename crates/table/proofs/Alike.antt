@@ -1,5 +1,5 @@
 -- Tables with the same lines, in any order. Assumes nothing.
-use mathlib.Core.Path.{_≡_, refl, sym, ap, ap₂, subst, _∙_}
+use mathlib.Core.Path.{_≡_, refl, sym, ap, ap₂, _∙_}
 use mathlib.Core.Bool.{Bool, true, false, _&&_, _||_}
 use mathlib.Core.List.{[], _∷_}
 use mathlib.Core.Logic.{_⊎_, inl, inr}
@@ -16,29 +16,25 @@ use Rattle.std.proofs.shelf.Tests.{cond-true, cond-false, cases-bool, and-parts
 use Rattle.std.proofs.shelf.Ways.{tells}
 use Rattle.prefix.specs.Bits.{Bits, same, before}
 use Rattle.prefix.proofs.Strings.{same-eq, same-refl}
-use Rattle.prefix.proofs.Order.{before-not}
-use Rattle.table.specs.Tables.{Entry, Entries, find, hopOf, has, distinct, pick, sits, seen, top, leads, holds}
+use Rattle.prefix.proofs.Order.{before-irrefl, before-trans}
+use Rattle.table.specs.Tables.{Entry, Entries, find, hopOf, has, distinct, pick, sits, seen, top, every, leads, rising, holds}
 use Rattle.table.specs.Laws.{OrderFree, SameLines, LinesDecide, RisingOnce}
 use Rattle.table.proofs.Picks.{Single, sits-single}
 use Rattle.table.proofs.Tops.{topmost}
 use Rattle.table.proofs.Counts.{distinct-parts, distinct-from}
-use Rattle.table.proofs.Rising.{leads-parts, leads-has, rising-parts}
+use Rattle.table.proofs.Unique.{Listed, unique}
 
 -- one line is another
-abbrev is : Entry → Entry → Bool
+abbrev pub is : Entry → Entry → Bool
 is e f = same (e .prefix) (f .prefix) && eqb (e .hop) (f .hop)
 
-is-eq : (e f : Entry) → is e f ≡ true → e ≡ f
+pub is-eq : (e f : Entry) → is e f ≡ true → e ≡ f
 is-eq e f h =
     let s = and-parts (same (e .prefix) (f .prefix)) (eqb (e .hop) (f .hop)) h in
     ap₂ (λ (p : Bits) (x : ℕ). record { prefix = p; hop = x }) (same-eq _ _ (s .0)) (eqb-true _ _ (s .1))
 
-is-refl : (e : Entry) → is e e ≡ true
+pub is-refl : (e : Entry) → is e e ≡ true
 is-refl e = and-from _ _ (same-refl (e .prefix)) (eq-eqb (e .hop) (e .hop) refl)
-
-pub holds-first : (e : Entry) (es : Entries) → holds e (e ∷ es) ≡ true
-unfolding holds
-holds-first e es = or-left (is e e) (holds e es) (is-refl e)
 
 pub holds-has : (e : Entry) (t : Entries) → holds e t ≡ true → has (e .prefix) t ≡ true
 unfolding holds has
@@ -165,52 +161,18 @@ order-free t u d s a =
 
 -- one table only has these lines and rises
 
-leads-held : (e f : Entry) (t : Entries) → leads e t ≡ true → holds f t ≡ true → before (e .prefix) (f .prefix) ≡ true
-unfolding holds
-leads-held e f [] l h = absurd (both-ways (holds f []) refl h)
-leads-held e f (g ∷ gs) l h =
-    let s = leads-parts e g gs l in
-    elim (or-cases (is f g) (holds f gs) h) [
-      | inl y ↦ rw (is-eq f g y) (s .0)
-      | inr y ↦ leads-held e f gs (s .1) y
-    ]
-
-first-same : (e f : Entry) (es fs : Entries) → leads e es ≡ true → leads f fs ≡ true → SameLines (e ∷ es) (f ∷ fs) → e ≡ f
-unfolding holds
-first-same e f es fs l m h =
-    elim (or-cases (is e f) (holds e fs) (sym (h e) ∙ or-left _ _ (is-refl e))) [
-      | inl y ↦ is-eq e f y
-      | inr y ↦ elim (or-cases (is f e) (holds f es) (h f ∙ or-left _ _ (is-refl f))) [
-        | inl z ↦ sym (is-eq f e z)
-        | inr z ↦ absurd (both-ways (before (f .prefix) (e .prefix)) (before-not (e .prefix) (f .prefix) (leads-held e f es l z)) (leads-held f e fs m y))
-      ]
-    ]
-
-absent : (e l : Entry) (es : Entries) → leads e es ≡ true → is l e ≡ true → holds l es ≡ false
-absent e l es d h =
-    elim (cases-bool (holds l es)) [
-      | inl y ↦ absurd (both-ways (has (e .prefix) es) (leads-has e es d) (rw (sym (is-eq l e h)) (holds-has l es y)))
-      | inr y ↦ y
-    ]
-
-rest-same : (e : Entry) (es fs : Entries) → leads e es ≡ true → leads e fs ≡ true → SameLines (e ∷ es) (e ∷ fs) → SameLines es fs
-unfolding holds
-rest-same e es fs l m h k =
-    elim (cases-bool (is k e)) [
-      | inl y ↦ absent e k es l y ∙ sym (absent e k fs m y)
-      | inr y ↦ let z = h k in rw y at z
-    ]
+listed : Listed is (λ e f. before (e .prefix) (f .prefix)) holds leads rising
+unfolding holds every rising
+listed = record {
+  is-eq = is-eq;
+  is-refl = is-refl;
+  irrefl = λ e. before-irrefl (e .prefix);
+  trans = λ e f g. before-trans (e .prefix) (f .prefix) (g .prefix);
+  among-none = λ e. refl;
+  among-more = λ e f fs. refl;
+  heads-more = λ e f fs. refl;
+  ordered-more = λ e es. refl;
+}
 
 pub rising-once : RisingOnce
-unfolding holds
-rising-once [] [] r s h = refl
-rising-once [] (f ∷ fs) r s h = absurd (both-ways (holds f []) refl (h f ∙ holds-first f fs))
-rising-once (e ∷ es) [] r s h = absurd (both-ways (holds e []) refl (sym (h e) ∙ holds-first e es))
-rising-once (e ∷ es) (f ∷ fs) r s h =
-    let a = rising-parts e es r in
-    let b = rising-parts f fs s in
-    let i = first-same e f es fs (a .0) (b .0) h in
-    let P : Entry → Type 0 = λ g. SameLines (e ∷ es) (g ∷ fs) in
-    let Q : Entry → Type 0 = λ g. leads g fs ≡ true in
-    let m : leads e fs ≡ true = subst Q (sym i) (b .0) in
-    ap₂ (λ (g : Entry) (gs : Entries). g ∷ gs) i (rising-once es fs (a .1) (b .1) (rest-same e es fs (a .0) m (subst P (sym i) h)))
+rising-once t u r s h = unique listed t u r s h

@@ -2,6 +2,7 @@ pub mod Picks
 pub mod Tops
 pub mod Counts
 pub mod Rising
+pub mod Unique
 pub mod Alike
 pub mod Places
 pub mod Held

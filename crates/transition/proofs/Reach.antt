@@ -2,13 +2,13 @@
 use mathlib.Core.Path.{_≡_, refl, sym, ap, _∙_}
 use mathlib.Core.Logic.{_⊎_, inl, inr}
 use mathlib.Core.Bool.{Bool, true, false, cond}
-use mathlib.Core.List.{[], _∷_}
+use mathlib.Core.List.{[], _∷_, _++_}
 use Prim.Native.Nat.{ℕ, zero, suc, max, _<_, _≤_}
 use native.Mathlib.Omega.{arith}
 use lib.ListN.{length, take, drop}
 use Rattle.std.specs.shelf.Lists.{All}
 use Rattle.std.proofs.shelf.Elements.{all-weaker, all-drop}
-use Rattle.std.proofs.shelf.Lists.{length-take-le}
+use Rattle.std.proofs.shelf.Lists.{length-take-le, take-append-drop}
 use Rattle.std.proofs.shelf.Tests.{cond-both, cases-bool, cases-lt, or-from, or-parts}
 use Rattle.prefix.specs.Bits.{Bits, begins, same}
 use Rattle.prefix.proofs.Strings.{same-eq}
@@ -23,27 +23,22 @@ unfoldable pub reach : Bits → Entries → ℕ
 reach a [] = 0
 reach a (e ∷ es) = cond (begins (e .prefix) a) (max (suc (length (e .prefix))) (reach a es)) (reach a es)
 
-pub reach-take : (a : Bits) (k : ℕ) (es : Entries) → reach a (take k es) ≤ reach a es
+reach-append : (a : Bits) (es fs : Entries) → reach a (es ++ fs) ≡ max (reach a es) (reach a fs)
 unfolding reach
-reach-take a zero es = omega arith
-reach-take a (suc k) [] = omega arith
-reach-take a (suc k) (e ∷ es) =
-    let ih = reach-take a k es in
+reach-append a [] fs = omega arith
+reach-append a (e ∷ es) fs =
+    let ih = reach-append a es fs in
     elim (cases-bool (begins (e .prefix) a)) [
       | inl y ↦ rw y (omega arith)
       | inr y ↦ rw y ih
     ]
 
+-- parts of a list reach no farther than all of it
+pub reach-take : (a : Bits) (k : ℕ) (es : Entries) → reach a (take k es) ≤ reach a es
+reach-take a k es = omega (arith, reach-append a (take k es) (drop k es), ap (reach a) (take-append-drop k es))
+
 pub reach-drop : (a : Bits) (k : ℕ) (es : Entries) → reach a (drop k es) ≤ reach a es
-unfolding reach
-reach-drop a zero es = omega arith
-reach-drop a (suc k) [] = omega arith
-reach-drop a (suc k) (e ∷ es) =
-    let ih = reach-drop a k es in
-    elim (cases-bool (begins (e .prefix) a)) [
-      | inl y ↦ rw y (omega arith)
-      | inr y ↦ rw y ih
-    ]
+reach-drop a k es = omega (arith, reach-append a (take k es) (drop k es), ap (reach a) (take-append-drop k es))
 
 -- past its reach the address has no line there
 pub past-reach : (a : Bits) (n : ℕ) (es : Entries) → n ≤ length a → reach a es ≤ n → has (take n a) es ≡ false

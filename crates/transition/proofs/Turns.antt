@@ -1,5 +1,5 @@
 -- The plan is as the rules say, and it is the only list of writes that is. Assumes nothing.
-use mathlib.Core.Path.{_≡_, refl, sym, ap, ap₂, subst, _∙_}
+use mathlib.Core.Path.{_≡_, refl, sym, ap, ap₂, _∙_}
 use mathlib.Core.Logic.{inl, inr}
 use mathlib.Core.Bool.{Bool, true, false, not, _&&_, _||_}
 use mathlib.Core.List.{List, [], _∷_, _++_, map}
@@ -9,10 +9,12 @@ use Rattle.std.specs.declared.option.Option.{Option}
 use Rattle.std.specs.declared.option.Option.the-variants.{Some, None}
 use Rattle.std.specs.Options.{isSome}
 use Rattle.std.specs.shelf.Lists.{All}
-use Rattle.std.proofs.shelf.Tests.{cases-bool, both-ways, or-cases, or-left, and-parts, and-from, eqb-true, eq-eqb}
+use Rattle.std.proofs.shelf.Tests.{cases-bool, both-ways, and-from, eqb-true}
 use Rattle.prefix.specs.Bits.{Bits, same}
 use Rattle.prefix.proofs.Strings.{same-eq, same-refl}
 use Rattle.table.specs.Tables.{Entry, Entries, has, holds, distinct, at}
+use Rattle.table.proofs.Alike.{is-eq, is-refl}
+use Rattle.table.proofs.Unique.{Listed, unique}
 use Rattle.transition.specs.Writes.{Writing, Put, Drop}
 use Rattle.transition.specs.Plans.{changed, fresh, longer, longestFirst, shortestFirst, dropping, plan, earlier, heads, inTurn, sameWriting, among, Prescribed}
 use Rattle.transition.specs.Laws.{PlanIs}
@@ -120,15 +122,13 @@ plan-prescribed old new od nd = record {
 -- one list only has these writes, each in its turn
 
 same-writing : (u v : Writing) → sameWriting u v ≡ true → u ≡ v
-same-writing (Put e) (Put f) h =
-    let s = and-parts (same (e .prefix) (f .prefix)) (eqb (e .hop) (f .hop)) h in
-    ap₂ (λ (p : Bits) (x : ℕ). Put (record { prefix = p; hop = x })) (same-eq _ _ (s .0)) (eqb-true _ _ (s .1))
+same-writing (Put e) (Put f) h = ap Put (is-eq e f h)
 same-writing (Put e) (Drop q) h = absurd (both-ways false refl h)
 same-writing (Drop p) (Put f) h = absurd (both-ways false refl h)
 same-writing (Drop p) (Drop q) h = ap Drop (same-eq p q h)
 
 writing-refl : (u : Writing) → sameWriting u u ≡ true
-writing-refl (Put e) = and-from _ _ (same-refl (e .prefix)) (eq-eqb (e .hop) (e .hop) refl)
+writing-refl (Put e) = is-refl e
 writing-refl (Drop p) = same-refl p
 
 earlier-irrefl : (u : Writing) → earlier u u ≡ false
@@ -143,63 +143,20 @@ earlier-trans (Drop p) (Put f) w h k = absurd (both-ways false refl h)
 earlier-trans (Drop p) (Drop q) (Put g) h k = k
 earlier-trans (Drop p) (Drop q) (Drop r) h k = order-trans ltb shorter-strict p q r h k
 
-heads-among : (u v : Writing) (us : List Writing) → heads u us ≡ true → among v us ≡ true → earlier u v ≡ true
-unfolding heads among
-heads-among u v [] h k = absurd (both-ways false refl k)
-heads-among u v (w ∷ ws) h k =
-    let s = and-parts (earlier u w) (heads u ws) h in
-    elim (or-cases (sameWriting v w) (among v ws) k) [
-      | inl y ↦ rw (same-writing v w y) (s .0)
-      | inr y ↦ heads-among u v ws (s .1) y
-    ]
+listed : Listed sameWriting earlier among heads inTurn
+unfolding among heads inTurn
+listed = record {
+  is-eq = same-writing;
+  is-refl = writing-refl;
+  irrefl = earlier-irrefl;
+  trans = earlier-trans;
+  among-none = λ u. refl;
+  among-more = λ u v vs. refl;
+  heads-more = λ u v vs. refl;
+  ordered-more = λ u us. refl;
+}
 
-among-first : (u : Writing) (us : List Writing) → among u (u ∷ us) ≡ true
-unfolding among
-among-first u us = or-left _ _ (writing-refl u)
-
-abbrev SameWrites : List Writing → List Writing → Type 0
-SameWrites us vs = (w : Writing) → among w us ≡ among w vs
-
-first-same : (u v : Writing) (us vs : List Writing) → heads u us ≡ true → heads v vs ≡ true → SameWrites (u ∷ us) (v ∷ vs) → u ≡ v
-unfolding among
-first-same u v us vs h k e =
-    elim (or-cases (sameWriting u v) (among u vs) (sym (e u) ∙ or-left _ _ (writing-refl u))) [
-      | inl y ↦ same-writing u v y
-      | inr y ↦ elim (or-cases (sameWriting v u) (among v us) (e v ∙ or-left _ _ (writing-refl v))) [
-        | inl z ↦ sym (same-writing v u z)
-        | inr z ↦ absurd (both-ways (earlier u u) (earlier-irrefl u) (earlier-trans u v u (heads-among u v us h z) (heads-among v u vs k y)))
-      ]
-    ]
-
-absent : (u w : Writing) (us : List Writing) → heads u us ≡ true → sameWriting w u ≡ true → among w us ≡ false
-absent u w us h y =
-    elim (cases-bool (among w us)) [
-      | inl z ↦ absurd (both-ways (earlier u u) (earlier-irrefl u) (heads-among u u us h (rw (same-writing w u y) at z)))
-      | inr z ↦ z
-    ]
-
-rest-same : (u : Writing) (us vs : List Writing) → heads u us ≡ true → heads u vs ≡ true → SameWrites (u ∷ us) (u ∷ vs) → SameWrites us vs
-unfolding among
-rest-same u us vs h k e w =
-    elim (cases-bool (sameWriting w u)) [
-      | inl y ↦ absent u w us h y ∙ sym (absent u w vs k y)
-      | inr y ↦ let z = e w in rw y at z
-    ]
-
-unique : (us vs : List Writing) → inTurn us ≡ true → inTurn vs ≡ true → SameWrites us vs → us ≡ vs
-unfolding inTurn among
-unique [] [] h k e = refl
-unique [] (v ∷ vs) h k e = absurd (both-ways false refl (e v ∙ among-first v vs))
-unique (u ∷ us) [] h k e = absurd (both-ways false refl (sym (e u) ∙ among-first u us))
-unique (u ∷ us) (v ∷ vs) h k e =
-    let a = and-parts (heads u us) (inTurn us) h in
-    let b = and-parts (heads v vs) (inTurn vs) k in
-    let i = first-same u v us vs (a .0) (b .0) e in
-    let P : Writing → Type 0 = λ w. SameWrites (u ∷ us) (w ∷ vs) in
-    let Q : Writing → Type 0 = λ w. heads w vs ≡ true in
-    ap₂ (λ (w : Writing) (ws : List Writing). w ∷ ws) i (unique us vs (a .1) (b .1) (rest-same u us vs (a .0) (subst Q (sym i) (b .0)) (subst P (sym i) e)))
-
-same-writes : (old new : Entries) (us vs : List Writing) → Prescribed old new us → Prescribed old new vs → SameWrites us vs
+same-writes : (old new : Entries) (us vs : List Writing) → Prescribed old new us → Prescribed old new vs → (u : Writing) → among u us ≡ among u vs
 same-writes old new us vs h k (Put e) = h .put e ∙ sym (k .put e)
 same-writes old new us vs h k (Drop p) = h .dropped p ∙ sym (k .dropped p)
 
@@ -207,5 +164,5 @@ pub plan-is : PlanIs
 plan-is old new od nd =
     let p = plan-prescribed old new od nd in (
       p,
-      λ us h. unique us (plan old new) (h .order) (p .order) (same-writes old new us (plan old new) h p),
+      λ us h. unique listed us (plan old new) (h .order) (p .order) (same-writes old new us (plan old new) h p),
     )
