@@ -8,7 +8,7 @@ use Rattle.table.specs.Tables.{Entries, find, has, distinct, every, holds, with
 use Rattle.transition.specs.Writes.{writtenAll}
 use Rattle.transition.specs.Plans.{insertBy, sortedBy}
 use Rattle.transition.specs.Laws.{Planner, NoWrongMoment}
-use Rattle.transition.specs.NearMisses.{Astray, Examples, Refuted, turns}
+use Rattle.transition.specs.NearMisses.{Astray, WrongMoments, Refuted, turns}
 
 unequal : (x y : ℕ) → x < y → (x ≡ y) → ⊥
 unequal x y h e = omega arith
@@ -16,7 +16,7 @@ unequal x y h e = omega arith
 above : (x y : ℕ) → y < x → (x ≡ y) → ⊥
 above x y h e = omega arith
 
-pub examples : Examples
+pub examples : WrongMoments
 unfolding begins same before find has distinct every holds without insert writtenAll insertBy sortedBy turns
 examples = (
   record { old-sound = refl; new-sound = refl; address = refl; goes = refl; not-old = unequal 1 2 (omega arith); not-new = unequal 1 2 (omega arith) },

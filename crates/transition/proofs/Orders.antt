@@ -11,7 +11,7 @@ use Rattle.std.proofs.shelf.Ways.{tells}
 use Rattle.prefix.specs.Bits.{Bits, same, before}
 use Rattle.prefix.proofs.Order.{before-irrefl, before-trans, before-other}
 use Rattle.table.specs.Tables.{Entries, distinct}
-use Rattle.transition.specs.Plans.{byLength, longer, longestFirst, shortestFirst, sortedBy}
+use Rattle.transition.specs.Plans.{byLength, isLonger, longestFirst, shortestFirst, sortedBy}
 use Rattle.transition.proofs.Reach.{Farther, Pairs, sorted-pairs, pairs-map}
 
 -- an order of lengths that is strict and total
@@ -20,7 +20,7 @@ pub record Strict (first : ℕ → ℕ → Bool) : Type 0 where
   pub trans : (m n k : ℕ) → first m n ≡ true → first n k ≡ true → first m k ≡ true
   pub total : (m n : ℕ) → first m n ≡ false → (m ≡ n → ⊥) → first n m ≡ true
 
-pub longer-strict : Strict longer
+pub longer-strict : Strict isLonger
 longer-strict = record {
   irrefl = λ n. grind (arith, tells);
   trans = λ m n k h g. grind (arith, tells);
@@ -100,7 +100,7 @@ before-apart p q h e = both-ways (before p p) (before-irrefl p) (rw e at h)
 
 longest-farther : (p q : Bits) → longestFirst p q ≡ true → Farther q p
 longest-farther p q h =
-    elim (ways longer longer-strict p q h) [
+    elim (ways isLonger longer-strict p q h) [
       | inl k ↦ inl (ltb-true (length q) (length p) k)
       | inr k ↦ inr (sym (k .0), before-apart p q (k .1))
     ]
@@ -115,7 +115,7 @@ shortest-farther p q h =
 pub longest-pairs : (t : Entries) → distinct t ≡ true → Pairs (λ e f. Farther (f .prefix) (e .prefix)) (sortedBy longestFirst t)
 longest-pairs t d =
     pairs-map (λ e f. longestFirst (e .prefix) (f .prefix) ≡ true) (λ e f. Farther (f .prefix) (e .prefix)) (λ e f h. longest-farther (e .prefix) (f .prefix) h)
-    (sortedBy longestFirst t) (order-sorted longer longer-strict t d)
+    (sortedBy longestFirst t) (order-sorted isLonger longer-strict t d)
 
 pub shortest-pairs : (t : Entries) → distinct t ≡ true → Pairs (λ e f. Farther (e .prefix) (f .prefix)) (sortedBy shortestFirst t)
 shortest-pairs t d =

@@ -14,7 +14,7 @@ use Rattle.std.proofs.shelf.Ways.{tells}
 use Rattle.prefix.specs.Bits.{Bits, before}
 use Rattle.table.specs.Tables.{Entry, Entries, leads, rising}
 use Rattle.table.proofs.Rising.{leads-parts, rising-parts}
-use Rattle.transition.specs.Plans.{byLength, longer, insertBy, sortedBy}
+use Rattle.transition.specs.Plans.{byLength, isLonger, insertBy, sortedBy}
 use Rattle.transition.proofs.Orders.{Strict, longer-strict, shorter-strict, by-first, by-bits, not-first}
 
 -- the lines of one length
@@ -137,12 +137,12 @@ module _ (first : ℕ → ℕ → Bool) (strict : Strict first) where
 
 -- the two orders of lengths
 
-below-less : (n m : ℕ) → n ≤ m → All (λ k. longer m k ≡ true) (below n)
+below-less : (n m : ℕ) → n ≤ m → All (λ k. isLonger m k ≡ true) (below n)
 unfolding below
 below-less zero m h = tt
 below-less (suc n) m h = (grind (arith, tells), below-less n m (omega arith))
 
-below-ordered : (n : ℕ) → Ordered longer longer-strict (below n)
+below-ordered : (n : ℕ) → Ordered isLonger longer-strict (below n)
 unfolding below Ordered
 below-ordered zero = tt
 below-ordered (suc n) = (below-less n n (omega arith), below-ordered n)
@@ -179,8 +179,8 @@ from-among (suc k) n m h l =
 abbrev pub Below : ℕ → Entries → Type 0
 Below w t = All (λ e. length (e .prefix) < w) t
 
-pub falls : (w : ℕ) (t : Entries) → Below w t → rising t ≡ true → sortedBy (byLength longer) t ≡ tiers (below w) t
-falls w t h r = tiers-sort longer longer-strict (below w) t (below-ordered w) (all-weaker (λ e. length (e .prefix) < w) (λ e. Among (length (e .prefix)) (below w)) (λ e l. below-among w (length (e .prefix)) l) t h) r
+pub falls : (w : ℕ) (t : Entries) → Below w t → rising t ≡ true → sortedBy (byLength isLonger) t ≡ tiers (below w) t
+falls w t h r = tiers-sort isLonger longer-strict (below w) t (below-ordered w) (all-weaker (λ e. length (e .prefix) < w) (λ e. Among (length (e .prefix)) (below w)) (λ e l. below-among w (length (e .prefix)) l) t h) r
 
 pub rises : (w : ℕ) (t : Entries) → Below w t → rising t ≡ true → sortedBy (byLength ltb) t ≡ tiers (from w 0) t
 rises w t h r =

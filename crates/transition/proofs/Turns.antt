@@ -16,7 +16,7 @@ use Rattle.table.specs.Tables.{Entry, Entries, has, holds, distinct, at}
 use Rattle.table.proofs.Alike.{is-eq, is-refl}
 use Rattle.table.proofs.Unique.{Listed, unique}
 use Rattle.transition.specs.Writes.{Writing, Put, Drop}
-use Rattle.transition.specs.Plans.{changed, fresh, longer, longestFirst, shortestFirst, dropping, plan, earlier, heads, inTurn, sameWriting, among, Prescribed}
+use Rattle.transition.specs.Plans.{changed, fresh, isLonger, longestFirst, shortestFirst, dropping, plan, earlier, heads, inTurn, sameWriting, among, Prescribed}
 use Rattle.transition.specs.Laws.{PlanIs}
 use Rattle.transition.proofs.Lines.{isHop, has-at, holds-at, distinct-kept}
 use Rattle.transition.proofs.Overlays.{putting, leaving, changedOf, freshOf, putting-at, leaving-at, distinct-putting}
@@ -115,7 +115,7 @@ plan-prescribed old new od nd = record {
       ∙ fresh-is (at old p) (at new p)
       ∙ ap₂ (λ (x y : Bool). x && not y) (sym (has-at p old)) (sym (has-at p new));
   order = turn-plan (putting old new) (leaving old new)
-      (order-sorted longer longer-strict (changed old new) (distinct-kept (λ e. not (holds e old)) new nd))
+      (order-sorted isLonger longer-strict (changed old new) (distinct-kept (λ e. not (holds e old)) new nd))
       (order-sorted ltb shorter-strict (fresh new old) (distinct-kept (λ e. not (has (e .prefix) new)) old od));
 }
 
@@ -132,11 +132,11 @@ writing-refl (Put e) = is-refl e
 writing-refl (Drop p) = same-refl p
 
 earlier-irrefl : (u : Writing) → earlier u u ≡ false
-earlier-irrefl (Put e) = order-irrefl longer longer-strict (e .prefix)
+earlier-irrefl (Put e) = order-irrefl isLonger longer-strict (e .prefix)
 earlier-irrefl (Drop p) = order-irrefl ltb shorter-strict p
 
 earlier-trans : (u v w : Writing) → earlier u v ≡ true → earlier v w ≡ true → earlier u w ≡ true
-earlier-trans (Put e) (Put f) (Put g) h k = order-trans longer longer-strict (e .prefix) (f .prefix) (g .prefix) h k
+earlier-trans (Put e) (Put f) (Put g) h k = order-trans isLonger longer-strict (e .prefix) (f .prefix) (g .prefix) h k
 earlier-trans (Put e) v (Drop r) h k = refl
 earlier-trans (Put e) (Drop q) (Put g) h k = absurd (both-ways false refl k)
 earlier-trans (Drop p) (Put f) w h k = absurd (both-ways false refl h)

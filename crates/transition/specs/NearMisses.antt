@@ -47,8 +47,8 @@ pub record Astray (f : Planner) (old new : Entries) (k : ℕ) (a : Bits) (x : �
   pub not-new : sends new a ≡ x → ⊥
 
 -- where each of them goes wrong
-abbrev pub Examples : Type 0
-Examples =
+abbrev pub WrongMoments : Type 0
+WrongMoments =
     -- 0 goes to 1 before and after; the shorter line, put first, sends it to 2
     Astray shortPutsFirst (line [] 1 ∷ []) (line [] 2 ∷ line (false ∷ []) 1 ∷ []) 1 (false ∷ []) 2 ×
     -- 0 goes to 2 and then nowhere; the longer line, dropped first, leaves it to the shorter

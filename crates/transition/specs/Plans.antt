@@ -13,7 +13,7 @@ use Rattle.transition.specs.Writes.{Writing, Put, Drop}
 
 -- THE LINES THAT DIFFER
 
--- the new lines that the old table has not, next hop and all
+-- the new lines that the old table has not, next hop and all. (`kept-by` keeps those of a list that pass a test, in their order)
 abbrev pub changed : Entries → Entries → Entries
 changed old new = kept-by (λ e. not (holds e old)) new
 
@@ -27,13 +27,15 @@ fresh old new = kept-by (λ e. not (has (e .prefix) old)) new
 abbrev pub byLength : (ℕ → ℕ → Bool) → Bits → Bits → Bool
 byLength first p q = first (length p) (length q) || (eqb (length p) (length q) && before p q)
 
--- the longest first, or the shortest first
-abbrev pub longer : ℕ → ℕ → Bool
-longer m n = ltb n m
+-- whether a length is longer than another
+abbrev pub isLonger : ℕ → ℕ → Bool
+isLonger m n = ltb n m
 
+-- the longest prefixes first
 abbrev pub longestFirst : Bits → Bits → Bool
-longestFirst p q = byLength longer p q
+longestFirst p q = byLength isLonger p q
 
+-- the shortest prefixes first
 abbrev pub shortestFirst : Bits → Bits → Bool
 shortestFirst p q = byLength ltb p q
 
@@ -53,7 +55,7 @@ sortedBy f (e ∷ es) = insertBy f e (sortedBy f es)
 abbrev pub puts : Entries → Entries → List Writing
 puts old new = map Put (sortedBy longestFirst (changed old new))
 
--- to drop lines by their prefixes
+-- the drop of a line
 abbrev pub dropping : Entry → Writing
 dropping e = Drop (e .prefix)
 
@@ -61,6 +63,7 @@ dropping e = Drop (e .prefix)
 abbrev pub drops : Entries → Entries → List Writing
 drops old new = map dropping (sortedBy shortestFirst (fresh new old))
 
+-- the plan from an old table to a new one
 abbrev pub plan : Entries → Entries → List Writing
 plan old new = puts old new ++ drops old new
 

@@ -1,6 +1,6 @@
 ghost use Rattle.transition.specs.Examples.{Small};
 ghost use Rattle.transition.specs.Laws.{BothWays, Ends, EndsRising, LookUpsOnce, NeverMore, NoWrongMoment, NoneIdle, NoneTwice, OnceNew, PlanCount, PlanIs, PlanIsSmooth};
-ghost use Rattle.transition.specs.NearMisses.{Examples as WrongMoments, Refuted};
+ghost use Rattle.transition.specs.NearMisses.{Refuted, WrongMoments};
 ghost use Rattle.transition.specs.Plans.{plan};
 
 // The definitions on small tables.
