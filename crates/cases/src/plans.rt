@@ -1,4 +1,5 @@
-// Plans on worked examples: every write, every moment, and refusals that leave the slice as it was.
+// Plans on worked examples: write for write, moment for moment, and refusals that leave the slice as it was.
+use crate::tables::next;
 use prefix::Prefix;
 use prefix::PrefixDebug;
 use prefix::PrefixPartialEq;
@@ -134,20 +135,20 @@ fn hosts(heap: Global, first: u32, lines: u32) -> Result<Table, AllocError> {
 }
 
 #[test]
-fn sixteen_thousand_lines_on_the_way_and_one_more(rt: LibcRuntime) -> Result<(), Fail> {
+fn the_most_lines_on_the_way_and_one_more(rt: LibcRuntime) -> Result<(), Fail> {
     let old = hosts(rt.alloc(), 0, 16_000)?;
     let fits = hosts(rt.alloc(), 15_000, 1_384)?;
     check_eq(plan_len(&old, &fits), Ok(384 + 15_000))?;
-    let strange = hosts(rt.alloc(), 15_000, 1_385)?;
-    check_eq(plan_len(&old, &strange), Err(Refusal::TooManyLines))?;
+    let one_more = hosts(rt.alloc(), 15_000, 1_385)?;
+    check_eq(plan_len(&old, &one_more), Err(Refusal::TooManyLines))?;
     let mut out = [blank(); 1];
     check_eq(
-        plan_into(&old, &strange, &mut out),
+        plan_into(&old, &one_more, &mut out),
         Err(Refusal::TooManyLines),
     )?;
     check_eq(out[0], blank())?;
     // the same both ways
-    check_eq(plan_len(&strange, &old), Err(Refusal::TooManyLines))?;
+    check_eq(plan_len(&one_more, &old), Err(Refusal::TooManyLines))?;
     check_eq(plan_len(&fits, &old), Ok(15_000 + 384))?;
     check_eq(Refusal::TooManyLines.number(), 7)
 }
@@ -161,4 +162,51 @@ fn a_table_beyond_the_device_is_refused(rt: LibcRuntime) -> Result<(), Fail> {
     check_eq(plan_len(&empty, &full), Ok(16_384))?;
     check_eq(plan_len(&empty, &over), Err(Refusal::TooManyLines))?;
     check_eq(plan_len(&over, &empty), Err(Refusal::TooManyLines))
+}
+
+// Some lines of at most 8 bits: few enough prefixes that lines stand under one another, and in both tables.
+fn scattered(heap: Global, start: u64) -> Result<Table, AllocError> {
+    let mut table = Table::new(heap);
+    let mut seed = start;
+    for _ in 0..60 {
+        seed = next(seed);
+        table.put(Route {
+            prefix: prefix((seed >> 32) as u32, ((seed >> 24) % 9) as u8),
+            next_hop: ((seed >> 16) % 4) as u8,
+        })?;
+    }
+    Ok(table)
+}
+
+// Where an address goes before and after; and whether it has gone the new way.
+fn old_or_new(before: u8, now: u8, after: u8, gone: bool) -> bool {
+    now == after || now == before && !gone
+}
+
+#[test]
+fn no_address_goes_astray_for_a_moment(rt: LibcRuntime) -> Result<(), Fail> {
+    let old = scattered(rt.alloc(), 5)?;
+    let new = scattered(rt.alloc(), 6)?;
+    let mut device = scattered(rt.alloc(), 5)?;
+    let mut out = [blank(); 120];
+    let count = match plan_into(&old, &new, &mut out) {
+        Ok(count) => count,
+        Err(_) => 0,
+    };
+    check(count > 60)?;
+    let mut gone = [false; 256];
+    for write in out.iter().take(count) {
+        write.apply(&mut device)?;
+        for (high, went) in gone.iter_mut().enumerate() {
+            let address = (high as u32) << 24;
+            let now = device.next_hop(address);
+            check(old_or_new(old.next_hop(address), now, new.next_hop(address), *went))?;
+            *went = now != old.next_hop(address);
+        }
+    }
+    check_eq(device.len(), new.len())?;
+    for (i, route) in new.routes().iter().enumerate() {
+        check_eq(device.routes().get(i).copied(), Some(*route))?;
+    }
+    Ok(())
 }

@@ -201,7 +201,8 @@ fn scanned(table: &Table, address: u32) -> Option<Match> {
     best
 }
 
-fn next(seed: u64) -> u64 {
+// The next of a fixed sequence of numbers that look random.
+pub(crate) fn next(seed: u64) -> u64 {
     seed.wrapping_mul(6364136223846793005)
         .wrapping_add(1442695040888963407)
 }

@@ -39,19 +39,6 @@ fn table(rt: &LibcRuntime, lines: &[Line]) -> Result<Table, AnyError> {
     Ok(table)
 }
 
-// Carries out one write.
-fn write(device: &mut Table, write: Write) -> Result<(), AnyError> {
-    match write {
-        Write::Put(route) => {
-            device.put(route)?;
-        }
-        Write::Drop(prefix) => {
-            device.remove(prefix);
-        }
-    }
-    Ok(())
-}
-
 // Prints one write, as `put 10.0.0.0/8 3` or `drop 10.0.0.0/8`.
 fn show(rt: &LibcRuntime, write: Write) -> Result<(), AnyError> {
     let prefix = match write {
@@ -81,9 +68,11 @@ fn go_over(rt: &LibcRuntime, device: &mut Table, new: &Table) -> Result<(), AnyE
         println!(rt, "refused {}", refusal.number())?;
         return Ok(());
     }
-    for planned in writes.as_slice() {
-        write(device, *planned)?;
-        show(rt, *planned)?;
+    // memory first: then no write is refused half-way
+    device.reserve(count)?;
+    for write in writes.as_slice() {
+        write.apply(device)?;
+        show(rt, *write)?;
     }
     let lines = device.len();
     println!(rt, "lines {lines}")?;

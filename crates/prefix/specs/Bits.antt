@@ -14,6 +14,7 @@ Bits = List Bool
 abbrev pub Address : ℕ → Bits → Type 0
 Address w a = length a ≡ w
 
+-- whether two bits are the same
 abbrev pub sameBit : Bool → Bool → Bool
 sameBit true b = b
 sameBit false b = not b
@@ -48,6 +49,7 @@ before (false ∷ p) (true ∷ q) = true
 before (true ∷ p) (false ∷ q) = false
 before (true ∷ p) (true ∷ q) = before p q
 
+-- whether a number is odd: its lowest bit is 1
 abbrev pub odd : ℕ → Bool
 odd v = eqb (v % 2) 1
 

@@ -9,9 +9,11 @@ use Rattle.prefix.specs.Bits.{Bits}
 use Rattle.table.specs.declared.lookups.Match.{Match}
 use Rattle.table.specs.Tables.{Entry, Entries, find, sends, SendSame, sound, at, without, put, rising, seen}
 
+-- a line, written short
 abbrev pub line : Bits → ℕ → Entry
 line p h = record { prefix = p; hop = h }
 
+-- what a look-up finds by a line of n bits, written short
 abbrev pub by : ℕ → ℕ → Option Match
 by n h = Some (record { len = n; «next_hop» = h })
 
@@ -19,6 +21,7 @@ by n h = Some (record { len = n; «next_hop» = h })
 abbrev pub nested : Entries
 nested = line [] 1 ∷ line (false ∷ []) 2 ∷ line (false ∷ true ∷ []) 0 ∷ []
 
+-- what look-ups find in these
 abbrev pub LookUps : Type 0
 LookUps =
     -- no line at all: dropped, and by none
@@ -37,6 +40,7 @@ LookUps =
     (seen nested (false ∷ true ∷ []) 2 ≡ Some 0) ×
     (seen nested (false ∷ true ∷ []) 3 ≡ None)
 
+-- which tables are sound and in order, and what puts and drops make of them
 abbrev pub Changes : Type 0
 Changes =
     (sound 2 nested ≡ true) ×

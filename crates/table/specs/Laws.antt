@@ -39,26 +39,29 @@ SeenPut = (e : Entry) (t : Entries) (a : Bits) (n : ℕ) → seen (put e t) a n 
 abbrev pub SeenWithout : Type 0
 SeenWithout = (p : Bits) (t : Entries) (a : Bits) (n : ℕ) → seen (without p t) a n ≡ cond (sits p a n) None (seen t a n)
 
--- what stands at the prefixes after a put and after a drop: that prefix's changes, and no other's
+-- a put changes what stands at its own prefix, and at no other
 abbrev pub AtPut : Type 0
 AtPut = (e : Entry) (t : Entries) (p : Bits) → at (put e t) p ≡ cond (same p (e .prefix)) (Some (e .hop)) (at t p)
 
+-- and so does a drop
 abbrev pub AtWithout : Type 0
 AtWithout = (q : Bits) (t : Entries) (p : Bits) → at (without q t) p ≡ cond (same p q) None (at t p)
 
--- how many lines there are after a put and after a drop
+-- a put makes a table one line longer if the prefix is new
 abbrev pub CountPut : Type 0
 CountPut = (e : Entry) (t : Entries) → distinct t ≡ true → length (put e t) ≡ cond (has (e .prefix) t) (length t) (suc (length t))
 
+-- a drop makes it one line shorter if the prefix is there
 abbrev pub CountWithout : Type 0
 CountWithout = (p : Bits) (t : Entries) → distinct t ≡ true → length t ≡ cond (has p t) (suc (length (without p t))) (length (without p t))
 
--- sound tables stay sound, and rising ones rising
+-- sound tables stay sound
 abbrev pub StaysSound : Type 0
 StaysSound =
     ((w : ℕ) (e : Entry) (t : Entries) → length (e .prefix) ≤ w → e .hop ≤ 255 → sound w t ≡ true → sound w (put e t) ≡ true) ×
     ((w : ℕ) (p : Bits) (t : Entries) → sound w t ≡ true → sound w (without p t) ≡ true)
 
+-- and rising ones rising
 abbrev pub StaysRising : Type 0
 StaysRising =
     ((e : Entry) (t : Entries) → rising t ≡ true → rising (put e t) ≡ true) ×
@@ -72,10 +75,11 @@ RisingDistinct = (t : Entries) → rising t ≡ true → distinct t ≡ true
 abbrev pub OrderFree : Type 0
 OrderFree = (t u : Entries) → distinct t ≡ true → Shuffled t u → (a : Bits) → find t a ≡ find u a
 
--- tables with the same lines give the same look-ups, and so send the same
+-- two tables have the same lines
 abbrev pub SameLines : Entries → Entries → Type 0
 SameLines t u = (e : Entry) → holds e t ≡ holds e u
 
+-- tables with the same lines give the same look-ups, and so send the same
 abbrev pub LinesDecide : Type 0
 LinesDecide = (t u : Entries) → distinct t ≡ true → distinct u ≡ true → SameLines t u → ((a : Bits) → find t a ≡ find u a) × ((w : ℕ) → SendSame w t u)
 

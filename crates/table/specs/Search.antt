@@ -9,10 +9,11 @@ use Rattle.std.specs.declared.result.Result.the-variants.{Ok, Err}
 use Rattle.prefix.specs.Bits.{Bits, before}
 use Rattle.table.specs.Tables.{Entry, Entries}
 
--- the line at a place, and its prefix
+-- the line at a place
 abbrev pub entryAt : Entries → ℕ → Entry
 entryAt t k = getD t k (record { prefix = []; hop = 0 })
 
+-- its prefix
 abbrev pub prefixAt : Entries → ℕ → Bits
 prefixAt t k = entryAt t k .prefix
 
@@ -33,6 +34,7 @@ pub record Missing (t : Entries) (p : Bits) (i : ℕ) : Type 0 where
   pub below : (k : ℕ) → k < i → before (prefixAt t k) p ≡ true
   pub above : (k : ℕ) → i ≤ k → k < length t → before p (prefixAt t k) ≡ true
 
+-- what a search for p answers: where its line stands, or else where it would
 abbrev pub Located : Entries → Bits → Result ℕ ℕ → Type 0
 Located t p (Ok i) = Stands t p i
 Located t p (Err i) = Missing t p i

@@ -1,4 +1,4 @@
--- The end of a plan, how many lines there are on the way, and that no write is idle. Assumes nothing.
+-- The end of a plan, and how many lines there are on the way. Assumes nothing.
 use mathlib.Core.Path.{_≡_, refl, sym, ap, ap₂, _∙_}
 use mathlib.Core.Logic.{inl, inr}
 use mathlib.Core.Bool.{Bool, true, false, cond, not, _||_}
@@ -10,7 +10,7 @@ use Rattle.std.specs.declared.option.Option.{Option}
 use Rattle.std.specs.declared.option.Option.the-variants.{Some, None}
 use Rattle.std.specs.Options.{isSome}
 use Rattle.std.proofs.shelf.Lists.{take-all, length-map, length-append}
-use Rattle.std.proofs.shelf.Tests.{cases-bool, both-ways, or-left, or-right, or-from}
+use Rattle.std.proofs.shelf.Tests.{cases-bool, both-ways, or-left, or-right, or-from, ltb-true, ltb-false, lt-ltb}
 use Rattle.prefix.specs.Bits.{Bits}
 use Rattle.prefix.proofs.Strings.{same-refl}
 use Rattle.table.specs.Tables.{Entry, Entries, has, distinct, rising, at}
@@ -19,8 +19,8 @@ use Rattle.table.proofs.Counts.{distinct-parts, distinct-from}
 use Rattle.table.proofs.Rising.{rising-distinct, rising-put, rising-without}
 use Rattle.table.proofs.Alike.{rising-once}
 use Rattle.transition.specs.Writes.{Writing, Put, Drop, written, writtenAll, moment}
-use Rattle.transition.specs.Plans.{changed, fresh, longestFirst, shortestFirst, dropping, plan}
-use Rattle.transition.specs.Laws.{Ends, EndsRising, NeverMore, PlanCount, BothWays}
+use Rattle.transition.specs.Plans.{changed, fresh, longestFirst, shortestFirst, dropping, plan, together}
+use Rattle.transition.specs.Laws.{Ends, EndsRising, NeverMore, WithinDevice, CrowdedIs, PlanCount, BothWays}
 use Rattle.transition.proofs.Lines.{alt, has-at, same-lines, distinct-all, has-append, has-take, distinct-kept, length-sorted, covered, as-many}
 use Rattle.transition.proofs.Overlays.{putting, leaving, changedOf, freshOf, moment-at, putting-at, ended, fresh-at}
 
@@ -151,3 +151,9 @@ never-more old new od nd k =
     (sym (ap isSome (moment-at old new nd k p)) ∙ sym (has-at p (moment (plan old new) old k)) ∙ y)
     (λ z. sym (has-at p new) ∙ putting-new old new p od nd (taken-has p k es (has-at p (take k es) ∙ z)))) in
     omega (arith, length-append old (fresh old new))
+
+pub within-device : WithinDevice
+within-device old new od nd c k = omega (arith, never-more old new od nd k, ltb-false 16384 (together old new) c)
+
+pub crowded-is : CrowdedIs
+crowded-is old new = (ltb-true 16384 (together old new), lt-ltb 16384 (together old new))

@@ -13,12 +13,16 @@ use Rattle.std.specs.declared.option.Option.{Option}
 use Rattle.std.specs.declared.option.Option.the-variants.{Some, None}
 use Rattle.std.proofs.shelf.Lists.{take-rest, drop-all, length-take-le, map-append}
 use Rattle.std.proofs.shelf.Tests.{cond-true, cond-false, lt-ltb, le-ltb, cases-bool}
+use Rattle.table.specs.Limits.{deviceLimit}
 use Rattle.table.specs.Tables.{Entries, rising}
+use Rattle.table.proofs.Rising.{rising-distinct}
 use Rattle.transition.specs.declared.write.Write.{Write}
-use Rattle.transition.specs.Writes.{Writing}
+use Rattle.transition.specs.Writes.{Writing, moment}
 use Rattle.transition.specs.Plans.{plan, crowded}
 use Rattle.transition.specs.Laws.{Smooth}
-use Rattle.transition.specs.Model.{writingOf, writingsOf, refusal, refusalIn}
+use Rattle.transition.specs.declared.refusal.Refusal.the-variants.{TooManyLines, SliceTooShort}
+use Rattle.transition.specs.Model.{writingOf, writingsOf, numberOf, refusal, refusalIn}
+use Rattle.transition.proofs.Ending.{within-device}
 use Rattle.transition.proofs.Smoothness.{plan-is-smooth}
 
 -- `one` is the slice with p at its front, and `two` its free end with d at its front
@@ -60,16 +64,22 @@ module _ (old new : Entries) (places : ℕ) (fine : None ≡ refusal old new) wh
   off =
       elim (cases-bool (crowded old new)) [
         | inl y ↦
-            let e : _≡_ {A = Option ℕ} None (Some 7) = fine ∙ cond-true (crowded old new) (Some 7) None y in
+            let e : _≡_ {A = Option ℕ} None (Some (numberOf TooManyLines)) = fine ∙ cond-true (crowded old new) (Some (numberOf TooManyLines)) None y in
             let z : _≡_ {A = ℕ} 0 1 = cc in absurd (omega arith)
         | inr y ↦ y
       ]
 
-  places-decide : refusalIn old new places ≡ cond (ltb places (length (plan old new))) (Some 0) None
-  places-decide = cond-false (crowded old new) (Some 7) (cond (ltb places (length (plan old new))) (Some 0) None) off
+  places-decide : refusalIn old new places ≡ cond (ltb places (length (plan old new))) (Some (numberOf SliceTooShort)) None
+  places-decide = cond-false (crowded old new) (Some (numberOf TooManyLines)) (cond (ltb places (length (plan old new))) (Some (numberOf SliceTooShort)) None) off
 
-  pub refused-short : places < length (plan old new) → Some 0 ≡ refusalIn old new places
-  refused-short h = sym (places-decide ∙ cond-true (ltb places (length (plan old new))) (Some 0) None (lt-ltb places (length (plan old new)) h))
+  -- at no moment more lines than a device holds
+  pub held : (us : List Writing) → rising old ≡ true → rising new ≡ true → us ≡ plan old new → (k : ℕ) → length (moment us old k) ≤ deviceLimit
+  held us ro rn e k =
+      let P : List Writing → Type 0 = λ vs. length (moment vs old k) ≤ deviceLimit in
+      subst P (sym e) (within-device old new (rising-distinct old ro) (rising-distinct new rn) off k)
+
+  pub refused-short : places < length (plan old new) → Some (numberOf SliceTooShort) ≡ refusalIn old new places
+  refused-short h = sym (places-decide ∙ cond-true (ltb places (length (plan old new))) (Some (numberOf SliceTooShort)) None (lt-ltb places (length (plan old new)) h))
 
   pub refused-not : length (plan old new) ≤ places → None ≡ refusalIn old new places
-  refused-not h = sym (places-decide ∙ cond-false (ltb places (length (plan old new))) (Some 0) None (le-ltb places (length (plan old new)) h))
+  refused-not h = sym (places-decide ∙ cond-false (ltb places (length (plan old new))) (Some (numberOf SliceTooShort)) None (le-ltb places (length (plan old new)) h))

@@ -20,7 +20,8 @@ use Rattle.table.specs.Routes.{entryOf}
 use Rattle.table.specs.Model.{entries}
 use Rattle.table.proofs.Rising.{rising-distinct}
 use Rattle.transition.specs.Plans.{changed, fresh, together, crowded}
-use Rattle.transition.specs.Model.{refusal}
+use Rattle.transition.specs.declared.refusal.Refusal.the-variants.{TooManyLines}
+use Rattle.transition.specs.Model.{numberOf, refusal}
 use Rattle.transition.proofs.Lines.{isHop, has-at, holds-at}
 use Rattle.transition.proofs.Ending.{both-ways-alike}
 
@@ -130,4 +131,4 @@ balance old new =
     }
 
 pub refused-none : (old new : Entries) → together old new ≤ 16384 → None ≡ refusal old new
-refused-none old new h = sym (cond-false (crowded old new) (Some 7) None (le-ltb 16384 (together old new) h))
+refused-none old new h = sym (cond-false (crowded old new) (Some (numberOf TooManyLines)) None (le-ltb 16384 (together old new) h))

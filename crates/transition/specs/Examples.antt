@@ -4,19 +4,22 @@ use mathlib.Core.Bool.{true, false}
 use mathlib.Core.List.{List, [], _∷_}
 use Rattle.table.specs.Examples.{line}
 use Rattle.table.specs.Tables.{Entries, sends}
-use Rattle.transition.specs.Writes.{Writing, Put, Drop, writtenAll, moment, works}
+use Rattle.transition.specs.Writes.{Writing, Put, Drop, writtenAll, moment, works, grows}
 use Rattle.transition.specs.Plans.{changed, fresh, longestFirst, shortestFirst, sortedBy, plan, together, crowded, inTurn, among}
 
--- three lines, of which the next table keeps one, changes one and lacks one, with two new ones
+-- three lines
 abbrev pub older : Entries
 older = line [] 1 ∷ line (false ∷ []) 2 ∷ line (true ∷ []) 3 ∷ []
 
+-- one of them kept, one with another next hop, one gone, and two new ones
 abbrev pub newer : Entries
 newer = line [] 1 ∷ line (false ∷ []) 4 ∷ line (false ∷ true ∷ []) 5 ∷ line (true ∷ false ∷ []) 6 ∷ []
 
+-- the writes from one to the other
 abbrev pub course : List Writing
 course = Put (line (false ∷ true ∷ []) 5) ∷ Put (line (true ∷ false ∷ []) 6) ∷ Put (line (false ∷ []) 4) ∷ Drop (true ∷ []) ∷ []
 
+-- what the definitions give for these
 abbrev pub Small : Type 0
 Small =
     (changed older newer ≡ line (false ∷ []) 4 ∷ line (false ∷ true ∷ []) 5 ∷ line (true ∷ false ∷ []) 6 ∷ []) ×
@@ -45,4 +48,7 @@ Small =
     (works (Put (line [] 1)) older ≡ false) ×
     (works (Put (line [] 2)) older ≡ true) ×
     (works (Drop (true ∷ true ∷ [])) older ≡ false) ×
-    (works (Drop (true ∷ [])) older ≡ true)
+    (works (Drop (true ∷ [])) older ≡ true) ×
+    (grows (Put (line [] 2)) older ≡ false) ×
+    (grows (Put (line (true ∷ true ∷ []) 2)) older ≡ true) ×
+    (grows (Drop (true ∷ [])) older ≡ false)

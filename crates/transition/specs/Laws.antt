@@ -10,8 +10,9 @@ use Rattle.std.specs.Finite.{nth}
 use Rattle.prefix.specs.Bits.{Bits, Address, same}
 use Rattle.table.specs.Tables.{Entries, find, sends, distinct, sound, rising}
 use Rattle.table.specs.Laws.{SameLines}
+use Rattle.table.specs.Limits.{deviceLimit}
 use Rattle.transition.specs.Writes.{Writing, target, writtenAll, moment, works}
-use Rattle.transition.specs.Plans.{changed, fresh, plan, together, Prescribed}
+use Rattle.transition.specs.Plans.{changed, fresh, plan, together, crowded, Prescribed}
 
 -- a way to plan: the writes from an old table to a new one
 abbrev pub Planner : Type 0
@@ -28,7 +29,7 @@ abbrev pub OnceNew : Planner → Type 0
 OnceNew f = (w : ℕ) (old new : Entries) → sound w old ≡ true → sound w new ≡ true → (k m : ℕ) (a : Bits) → Address w a → k ≤ m →
     (sends (moment (f old new) old k) a ≡ sends old a) ⊎ (sends (moment (f old new) old m) a ≡ sends new a)
 
--- the same of all that a look-up finds, the length of the line too, whatever the lines of both tables are, as long as no two have the same prefix
+-- the same of all that a look-up finds, the length of the line too; of the tables it is asked only that no two lines of one have the same prefix
 abbrev pub LookUpsOnce : Planner → Type 0
 LookUpsOnce f = (old new : Entries) → distinct old ≡ true → distinct new ≡ true → (k m : ℕ) (a : Bits) → k ≤ m →
     (find (moment (f old new) old k) a ≡ find old a) ⊎ (find (moment (f old new) old m) a ≡ find new a)
@@ -42,9 +43,17 @@ Ends = (old new : Entries) → distinct old ≡ true → distinct new ≡ true �
 abbrev pub EndsRising : Type 0
 EndsRising = (old new : Entries) → rising old ≡ true → rising new ≡ true → writtenAll (plan old new) old ≡ new
 
--- at no moment are there more lines than the old table and the new lines whose prefixes it hasn't
+-- at no moment are there more lines than the old table and the new lines whose prefixes it does not have
 abbrev pub NeverMore : Type 0
 NeverMore = (old new : Entries) → distinct old ≡ true → distinct new ≡ true → (k : ℕ) → length (moment (plan old new) old k) ≤ together old new
+
+-- so, where going over is not refused, a device never has to hold more lines than it can
+abbrev pub WithinDevice : Type 0
+WithinDevice = (old new : Entries) → distinct old ≡ true → distinct new ≡ true → crowded old new ≡ false → (k : ℕ) → length (moment (plan old new) old k) ≤ deviceLimit
+
+-- it is refused exactly where both tables together have more than a device holds
+abbrev pub CrowdedIs : Type 0
+CrowdedIs = (old new : Entries) → (crowded old new ≡ true → deviceLimit < together old new) × (deviceLimit < together old new → crowded old new ≡ true)
 
 -- no write is idle: each changes the table when its turn comes,
 abbrev pub NoneIdle : Type 0
@@ -69,7 +78,8 @@ PlanCount = (old new : Entries) → length (plan old new) ≡ length (changed ol
 abbrev pub BothWays : Type 0
 BothWays = (old new : Entries) → distinct old ≡ true → distinct new ≡ true → together old new ≡ together new old
 
--- going over by these writes: all of this for one list of them
+-- what holds of going over from old to new by some writes: every moment's look-ups are old or new, and once new stay new; the end is the new table;
+-- the lines are bounded on the way; no write is idle; and no prefix is written twice
 pub record Smooth (old new : Entries) (us : List Writing) : Type 0 where
   pub moments : (k : ℕ) (a : Bits) → (find (moment us old k) a ≡ find old a) ⊎ (find (moment us old k) a ≡ find new a)
   pub once : (k m : ℕ) (a : Bits) → k ≤ m → (find (moment us old k) a ≡ find old a) ⊎ (find (moment us old m) a ≡ find new a)

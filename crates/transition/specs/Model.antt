@@ -21,18 +21,20 @@ abbrev pub writingOf : Write → Writing
 writingOf (PutRoute r) = Put (entryOf r)
 writingOf (DropPrefix p) = Drop (bits p)
 
+-- and those that several are
 abbrev pub writingsOf : List Write → List Writing
 writingsOf ws = map writingOf ws
 
--- the number of each refusal: 7 is that of the formats; a slice that is too short is a matter of the call alone, and has 0
-abbrev pub number : Refusal → ℕ
-number TooManyLines = 7
-number SliceTooShort = 0
+-- the number by which each refusal is known outside: 7 for too many lines while going over; a slice that is too short is a matter between the
+-- caller and the call alone, and has none, which is 0
+abbrev pub numberOf : Refusal → ℕ
+numberOf TooManyLines = 7
+numberOf SliceTooShort = 0
 
--- by what a plan from old to new is refused, if at all
+-- the number by which going over from old to new is refused, if it is
 abbrev pub refusal : Entries → Entries → Option ℕ
-refusal old new = cond (crowded old new) (Some 7) None
+refusal old new = cond (crowded old new) (Some (numberOf TooManyLines)) None
 
--- and by what it is refused where it has so many places to be written to
+-- the same where the plan is to be written to so many places: the count is judged first, and then the places
 abbrev pub refusalIn : Entries → Entries → ℕ → Option ℕ
-refusalIn old new places = cond (crowded old new) (Some 7) (cond (ltb places (length (plan old new))) (Some 0) None)
+refusalIn old new places = cond (crowded old new) (Some (numberOf TooManyLines)) (cond (ltb places (length (plan old new))) (Some (numberOf SliceTooShort)) None)

@@ -13,11 +13,11 @@ use Rattle.transition.specs.Writes.{Writing, Put, Drop}
 
 -- THE LINES THAT DIFFER
 
--- the new lines that the old table has not, next hop and all. (`kept-by` keeps those of a list that pass a test, in their order)
+-- the new lines that the old table does not have with the same next hop. (`kept-by` keeps those of a list that pass a test, in their order)
 abbrev pub changed : Entries → Entries → Entries
 changed old new = kept-by (λ e. not (holds e old)) new
 
--- the new lines whose prefixes the old table has not
+-- the new lines whose prefixes the old table does not have
 abbrev pub fresh : Entries → Entries → Entries
 fresh old new = kept-by (λ e. not (has (e .prefix) old)) new
 
@@ -59,7 +59,7 @@ puts old new = map Put (sortedBy longestFirst (changed old new))
 abbrev pub dropping : Entry → Writing
 dropping e = Drop (e .prefix)
 
--- then each old line is dropped whose prefix the new table has not, the shortest first
+-- then each old line is dropped whose prefix the new table does not have, the shortest first
 abbrev pub drops : Entries → Entries → List Writing
 drops old new = map dropping (sortedBy shortestFirst (fresh new old))
 
@@ -69,7 +69,7 @@ plan old new = puts old new ++ drops old new
 
 -- THE COUNT
 
--- how many lines the old table and the new lines whose prefixes it hasn't are together
+-- how many lines the old table and the new lines whose prefixes it does not have are together
 abbrev pub together : Entries → Entries → ℕ
 together old new = length old + length (fresh old new)
 
@@ -108,8 +108,8 @@ unfoldable pub among : Writing → List Writing → Bool
 among u [] = false
 among u (v ∷ vs) = sameWriting u v || among u vs
 
--- the rules, sentence by sentence: a line is put exactly if the new table has it and the old one hasn't, next hop and all;
--- a prefix is dropped exactly if the old table has it and the new one hasn't; and each write has its turn
+-- the rules, sentence by sentence: a line is put exactly if the new table has it and the old one does not, next hop and all;
+-- a prefix is dropped exactly if the old table has it and the new one does not; and each write has its turn
 pub record Prescribed (old new : Entries) (us : List Writing) : Type 0 where
   pub put : (e : Entry) → among (Put e) us ≡ (holds e new && not (holds e old))
   pub dropped : (p : Bits) → among (Drop p) us ≡ (has p old && not (has p new))

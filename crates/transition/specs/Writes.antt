@@ -1,5 +1,5 @@
 -- Writes to a device's table, and what it holds between any two of them, for any width of addresses. Assumes nothing.
-use mathlib.Core.Bool.{Bool, not}
+use mathlib.Core.Bool.{Bool, false, not}
 use mathlib.Core.List.{List, [], _∷_}
 use Prim.Native.Nat.{ℕ}
 use lib.ListN.{take}
@@ -34,3 +34,8 @@ moment us t k = writtenAll (take k us) t
 abbrev pub works : Writing → Entries → Bool
 works (Put e) t = not (holds e t)
 works (Drop p) t = has p t
+
+-- whether a write makes a table longer: it puts a line whose prefix is not there
+abbrev pub grows : Writing → Entries → Bool
+grows (Put e) t = not (has (e .prefix) t)
+grows (Drop p) t = false

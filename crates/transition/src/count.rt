@@ -9,7 +9,7 @@ ghost use Rattle.table.specs.Limits.{deviceLimit};
 ghost use Rattle.table.specs.Model.{entries};
 ghost use Rattle.table.specs.Routes.{entryOf};
 ghost use Rattle.table.specs.Tables.{has, holds};
-ghost use Rattle.transition.specs.Model.{number, refusal};
+ghost use Rattle.transition.specs.Model.{numberOf, refusal};
 ghost use Rattle.transition.specs.Plans.{changed, fresh, plan};
 use crate::refusal::Refusal;
 use prefix::Prefix;
@@ -34,17 +34,19 @@ pub(crate) fn has_prefix(table: &Table, prefix: Prefix) -> bool
     table.get(prefix).is_some()
 }
 
-// How many routes of a new table an old one has not: next hop and all, and by their prefixes.
+// How much of a new table is new.
 #[derive(Clone, Copy)]
 struct Differing {
-    changed: usize,
-    fresh: usize,
+    // routes that the old table does not have with the same next hop
+    routes: usize,
+    // those of them whose prefixes the old table does not have at all
+    prefixes: usize,
 }
 
-// Counts the routes of the new table that the old one has not.
+// Counts the routes of the new table that the old one does not have.
 fn count_differing(old: &Table, new: &Table) -> Differing
-    ensures changed { λ r. ⌜ r .changed ≡ length (changed (entries (now (old .entry))) (entries (now (new .entry)))) ⌝ }
-    ensures fresh { λ r. ⌜ r .fresh ≡ length (fresh (entries (now (old .entry))) (entries (now (new .entry)))) ⌝ }
+    ensures routes { λ r. ⌜ r .routes ≡ length (changed (entries (now (old .entry))) (entries (now (new .entry)))) ⌝ }
+    ensures prefixes { λ r. ⌜ r .prefixes ≡ length (fresh (entries (now (old .entry))) (entries (now (new .entry)))) ⌝ }
 {
     let mut changed = 0;
     let mut fresh = 0;
@@ -62,7 +64,10 @@ fn count_differing(old: &Table, new: &Table) -> Differing
             }
         }
     }
-    Differing { changed, fresh }
+    Differing {
+        routes: changed,
+        prefixes: fresh,
+    }
 }
 
 // How many puts and how many drops a plan has.
@@ -70,32 +75,32 @@ fn count_differing(old: &Table, new: &Table) -> Differing
 pub(crate) struct Extent {
     pub(crate) puts: usize,
     pub(crate) drops: usize,
-    ghost few: { puts ≤ deviceLimit },
-    ghost small: { drops ≤ deviceLimit },
+    ghost few_puts: { puts ≤ deviceLimit },
+    ghost few_drops: { drops ≤ deviceLimit },
 }
 
-// How many puts and drops it takes to go over from one table to another. Refused where the old lines and
-// the new ones whose prefixes the old table hasn't are more than a device holds: they are counted and compared before anything is written.
+// How many puts and drops it takes to go over from one table to another. Refused where the old lines, and
+// the new ones whose prefixes the old table does not have, are more than a device holds: they are counted and compared before anything is written.
 pub(crate) fn measure(old: &Table, new: &Table) -> Result<Extent, Refusal>
-    ensures refused { λ r. ⌜ mapped number (errPart r) ≡ refusal (entries (now (old .entry))) (entries (now (new .entry))) ⌝ }
+    ensures refused { λ r. ⌜ mapped numberOf (errPart r) ≡ refusal (entries (now (old .entry))) (entries (now (new .entry))) ⌝ }
     ensures puts { λ r. ⌜ made r (λ x. x .puts ≡ length (changed (entries (now (old .entry))) (entries (now (new .entry))))) ⌝ }
     ensures drops { λ r. ⌜ made r (λ x. x .drops ≡ length (fresh (entries (now (new .entry))) (entries (now (old .entry))))) ⌝ }
 {
     let lines = old.len();
     let differing = count_differing(old, new);
-    if lines > DEVICE_LIMIT || differing.fresh > DEVICE_LIMIT - lines {
+    if lines > DEVICE_LIMIT || differing.prefixes > DEVICE_LIMIT - lines {
         return Err(Refusal::TooManyLines);
     }
-    // both tables together have as many prefixes one way as the other
+    // dropped are the prefixes that both tables have together, less those of the new one
     Ok(Extent {
-        puts: differing.changed,
-        drops: lines + differing.fresh - new.len(),
+        puts: differing.routes,
+        drops: lines + differing.prefixes - new.len(),
     })
 }
 
-// How many writes it takes to go over from one table to another; refused where both together have more lines than a device holds.
+// How many writes it takes to go over from one table to another; refused where both together have more prefixes than a device holds lines.
 pub fn plan_len(old: &Table, new: &Table) -> Result<usize, Refusal>
-    ensures refused { λ r. ⌜ mapped number (errPart r) ≡ refusal (entries (now (old .entry))) (entries (now (new .entry))) ⌝ }
+    ensures refused { λ r. ⌜ mapped numberOf (errPart r) ≡ refusal (entries (now (old .entry))) (entries (now (new .entry))) ⌝ }
     ensures value { λ r. ⌜ made r (λ n. n ≡ length (plan (entries (now (old .entry))) (entries (now (new .entry))))) ⌝ }
 {
     let extent = measure(old, new)?;

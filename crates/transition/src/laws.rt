@@ -1,5 +1,5 @@
 ghost use Rattle.transition.specs.Examples.{Small};
-ghost use Rattle.transition.specs.Laws.{BothWays, Ends, EndsRising, LookUpsOnce, NeverMore, NoWrongMoment, NoneIdle, NoneTwice, OnceNew, PlanCount, PlanIs, PlanIsSmooth};
+ghost use Rattle.transition.specs.Laws.{BothWays, CrowdedIs, Ends, EndsRising, LookUpsOnce, NeverMore, NoWrongMoment, NoneIdle, NoneTwice, OnceNew, PlanCount, PlanIs, PlanIsSmooth, WithinDevice};
 ghost use Rattle.transition.specs.NearMisses.{Refuted, WrongMoments};
 ghost use Rattle.transition.specs.Plans.{plan};
 
@@ -27,9 +27,12 @@ pub fn plan_ends_in_new()
     ()
 }
 
-// At no moment are there more lines than the old table and the new lines whose prefixes it hasn't; and these are as many both ways.
+// At no moment are there more lines than the old table and the new lines whose prefixes it does not have, so that what is not refused never
+// takes a device beyond what it holds; and these are as many both ways.
 pub fn lines_are_bounded()
     ensures moments { λ _. ⌜ NeverMore ⌝ }
+    ensures device { λ _. ⌜ WithinDevice ⌝ }
+    ensures refused { λ _. ⌜ CrowdedIs ⌝ }
     ensures both_ways { λ _. ⌜ BothWays ⌝ }
 {
     ()
@@ -51,7 +54,8 @@ pub fn plan_is_prescribed()
     ()
 }
 
-// Between two tables of the code, all of this holds of the plan.
+// Between two tables in order, as those of the code are, the plan is smooth: no wrong moment, once new always new, the new table at the end,
+// lines bounded on the way, no idle write, no prefix twice.
 pub fn plan_is_smooth()
     ensures { λ _. ⌜ PlanIsSmooth ⌝ }
 {

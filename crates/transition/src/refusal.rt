@@ -1,5 +1,5 @@
 ghost use mathlib.Core.Path.{_≡_};
-ghost use Rattle.transition.specs.Model.{number};
+ghost use Rattle.transition.specs.Model.{numberOf};
 
 // Why a plan is not made.
 #[derive(Clone, Copy, PartialEq, Eq, Debug)]
@@ -11,9 +11,9 @@ pub enum Refusal {
 }
 
 impl Refusal {
-    // The number that it has in the formats; 0 where it has none.
+    // The number by which it is known outside; 0 where it has none.
     pub fn number(self) -> u8
-        ensures { λ r. ⌜ r ≡ number self ⌝ }
+        ensures { λ r. ⌜ r ≡ numberOf self ⌝ }
     {
         match self {
             Refusal::TooManyLines => 7,

@@ -25,4 +25,4 @@ pub returns : need.returns
 returns c =
     let r = counting-all (entries (c .args .old .now)) (entries (c .args .new .now)) (c .routes-routes .result .now) (c .loop-route .route-index) (c .loop-route .changed) (c .loop-route .fresh)
     (c .loop-route .inv) (c .loop-route-test .left) (c .routes-routes .ensures) in
-    record { changed = r .0; fresh = r .1 }
+    record { routes = r .0; prefixes = r .1 }

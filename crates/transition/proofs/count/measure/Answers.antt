@@ -14,6 +14,6 @@ returns c =
     let b = balance (c .args .old .now) (c .args .new .now) in
     record {
       refused = refused-none (entries (c .args .old .now)) (entries (c .args .new .now)) (omega arith);
-      puts = c .count-differing-differing .ensures .changed;
+      puts = c .count-differing-differing .ensures .routes;
       drops = omega arith;
     }

@@ -7,4 +7,4 @@ use Rattle.transition.proofs.laws.plans_by_example.Needs as need
 
 pub returns : need.returns
 unfolding begins same before find has holds without insert writtenAll insertBy sortedBy heads inTurn among
-returns c = (refl, refl, refl, refl, refl, refl, refl, refl, refl, refl, refl, refl, refl, refl, refl, refl, refl, refl, refl, refl, refl, refl, refl)
+returns c = (refl, refl, refl, refl, refl, refl, refl, refl, refl, refl, refl, refl, refl, refl, refl, refl, refl, refl, refl, refl, refl, refl, refl, refl, refl, refl)

@@ -5,7 +5,7 @@ use lib.ListN.{length}
 use Rattle.table.specs.Model.{entries}
 use Rattle.transition.specs.Plans.{puts, drops}
 use Rattle.transition.proofs.Ending.{plan-count}
-use Rattle.transition.proofs.Halves.{halves-written, halves-left, as-smooth, refused-short, refused-not}
+use Rattle.transition.proofs.Halves.{halves-written, halves-left, as-smooth, held, refused-short, refused-not}
 use Rattle.transition.proofs.plan.plan_into.Needs as need
 
 pub returns-then-out-puts : need.returns-then-out-puts
@@ -18,6 +18,7 @@ returns-then-out-puts c =
       count = tt;
       written = tt;
       left = refl;
+      held = tt;
       smooth = tt;
     }
 
@@ -39,5 +40,6 @@ returns c =
       written = all;
       left = halves-left (puts old new) (drops old new) (c .args .out .now) one two n m long
           (c .fill-puts .ensures .written) (c .fill-puts .ensures .left) (c .fill-drops .ensures .written) (c .fill-drops .ensures .left);
+      held = held old new (length (c .args .out .now)) (e .refused) _ (c .args .old .now .ordered) (c .args .new .now .ordered) all;
       smooth = as-smooth old new _ (c .args .old .now .ordered) (c .args .new .now .ordered) all;
     }
