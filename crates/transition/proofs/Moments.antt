@@ -27,7 +27,7 @@ use Rattle.transition.proofs.Orders.{longest-pairs, shortest-pairs}
 abbrev pub view : Entries → Bits → ℕ → Option ℕ
 view t a n = at t (take n a)
 
-find-view : (t : Entries) (a : Bits) → find t a ≡ top (view t a) (length a)
+pub find-view : (t : Entries) (a : Bits) → find t a ≡ top (view t a) (length a)
 find-view t a = topmost t a ∙ top-upto (seen t a) (view t a) (length a) (λ n h. seen-at t a n h)
 
 at-parts : (p : Bits) (k : ℕ) (t : Entries) → has p (drop k t) ≡ false → at t p ≡ at (take k t) p

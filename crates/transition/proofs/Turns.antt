@@ -17,7 +17,7 @@ use Rattle.table.proofs.Alike.{is-eq, is-refl}
 use Rattle.table.proofs.Unique.{Listed, unique}
 use Rattle.transition.specs.Writes.{Writing, Put, Drop}
 use Rattle.transition.specs.Plans.{changed, fresh, isLonger, longestFirst, shortestFirst, dropping, plan, earlier, heads, inTurn, sameWriting, among, Prescribed}
-use Rattle.transition.specs.Laws.{PlanIs}
+use Rattle.transition.specs.Laws.{PlanIs, ByDifference}
 use Rattle.transition.proofs.Lines.{isHop, has-at, holds-at, distinct-kept}
 use Rattle.transition.proofs.Overlays.{putting, leaving, changedOf, freshOf, putting-at, leaving-at, distinct-putting}
 use Rattle.transition.proofs.Reach.{Pairs}
@@ -166,3 +166,8 @@ plan-is old new od nd =
       p,
       λ us h. unique listed us (plan old new) (h .order) (p .order) (same-writes old new us (plan old new) h p),
     )
+
+pub by-difference : ByDifference
+by-difference old new old′ new′ od nd od′ nd′ h k =
+    let p = plan-prescribed old′ new′ od′ nd′ in
+    sym (plan-is old new od nd .1 (plan old′ new′) (record { put = λ e. p .put e ∙ sym (h e); dropped = λ q. p .dropped q ∙ sym (k q); order = p .order }))

@@ -1,14 +1,15 @@
 -- What holds of plans, for tables of any width and any addresses; each statement is a theorem. Assumes nothing.
 use mathlib.Core.Path.{_≡_}
-use mathlib.Core.Bool.{true, false}
-use mathlib.Core.List.{List}
+use mathlib.Core.Bool.{true, false, _&&_, not}
+use mathlib.Core.List.{List, []}
 use mathlib.Core.Logic.{_⊎_}
 use Prim.Native.Nat.{ℕ, _+_, _<_, _≤_}
 use lib.ListN.{length}
 use Rattle.std.specs.declared.option.Option.the-variants.{Some}
 use Rattle.std.specs.Finite.{nth}
-use Rattle.prefix.specs.Bits.{Bits, Address, same}
-use Rattle.table.specs.Tables.{Entries, find, sends, distinct, sound, rising}
+use Rattle.std.specs.shelf.Lists.{kept-by}
+use Rattle.prefix.specs.Bits.{Bits, Address, begins, same}
+use Rattle.table.specs.Tables.{Entry, Entries, find, sends, has, holds, distinct, sound, rising}
 use Rattle.table.specs.Laws.{SameLines}
 use Rattle.table.specs.Limits.{deviceLimit}
 use Rattle.transition.specs.Writes.{Writing, target, writtenAll, moment, works}
@@ -17,6 +18,14 @@ use Rattle.transition.specs.Plans.{changed, fresh, plan, together, crowded, Pr
 -- a way to plan: the writes from an old table to a new one
 abbrev pub Planner : Type 0
 Planner = Entries → Entries → List Writing
+
+-- what an address finds after some writes depends only on those whose prefixes it begins with, in their order
+abbrev pub OwnWrites : Type 0
+OwnWrites = (us : List Writing) (t : Entries) (a : Bits) → find (writtenAll us t) a ≡ find (writtenAll (kept-by (λ u. begins (target u) a) us) t) a
+
+-- so an address that begins with no prefix that is written notices nothing, at any moment
+abbrev pub Untouched : Type 0
+Untouched = (us : List Writing) (t : Entries) (a : Bits) → kept-by (λ u. begins (target u) a) us ≡ [] → (k : ℕ) → find (moment us t k) a ≡ find t a
 
 -- no wrong moment: after any number of writes each address goes where it went before or where it goes after
 abbrev pub NoWrongMoment : Planner → Type 0
@@ -69,6 +78,13 @@ NoneTwice = (old new : Entries) → distinct old ≡ true → distinct new ≡ t
 abbrev pub PlanIs : Type 0
 PlanIs = (old new : Entries) → distinct old ≡ true → distinct new ≡ true →
     Prescribed old new (plan old new) × ((us : List Writing) → Prescribed old new us → us ≡ plan old new)
+
+-- it depends on nothing but what differs: on which lines are new, and which prefixes are gone
+abbrev pub ByDifference : Type 0
+ByDifference = (old new old′ new′ : Entries) → distinct old ≡ true → distinct new ≡ true → distinct old′ ≡ true → distinct new′ ≡ true →
+    ((e : Entry) → (holds e new && not (holds e old)) ≡ (holds e new′ && not (holds e old′))) →
+    ((p : Bits) → (has p old && not (has p new)) ≡ (has p old′ && not (has p new′))) →
+    plan old new ≡ plan old′ new′
 
 -- how many writes it has
 abbrev pub PlanCount : Type 0

@@ -1,5 +1,5 @@
 ghost use Rattle.transition.specs.Examples.{Small};
-ghost use Rattle.transition.specs.Laws.{BothWays, CrowdedIs, Ends, EndsRising, LookUpsOnce, NeverMore, NoWrongMoment, NoneIdle, NoneTwice, OnceNew, PlanCount, PlanIs, PlanIsSmooth, WithinDevice};
+ghost use Rattle.transition.specs.Laws.{BothWays, ByDifference, CrowdedIs, Ends, EndsRising, LookUpsOnce, NeverMore, NoWrongMoment, NoneIdle, NoneTwice, OnceNew, OwnWrites, PlanCount, PlanIs, PlanIsSmooth, Untouched, WithinDevice};
 ghost use Rattle.transition.specs.NearMisses.{Refuted, WrongMoments};
 ghost use Rattle.transition.specs.Plans.{plan};
 
@@ -15,6 +15,14 @@ pub fn no_wrong_moment()
     ensures moments { λ _. ⌜ NoWrongMoment plan ⌝ }
     ensures once { λ _. ⌜ OnceNew plan ⌝ }
     ensures lookups { λ _. ⌜ LookUpsOnce plan ⌝ }
+{
+    ()
+}
+
+// What an address finds depends only on the writes of prefixes that it begins with; with none of them it notices nothing.
+pub fn writes_are_local()
+    ensures own { λ _. ⌜ OwnWrites ⌝ }
+    ensures untouched { λ _. ⌜ Untouched ⌝ }
 {
     ()
 }
@@ -46,9 +54,10 @@ pub fn no_write_is_idle()
     ()
 }
 
-// The plan is the one list of writes that the rules prescribe.
+// The plan is the one list of writes that the rules prescribe, and depends only on what differs.
 pub fn plan_is_prescribed()
     ensures only { λ _. ⌜ PlanIs ⌝ }
+    ensures difference { λ _. ⌜ ByDifference ⌝ }
     ensures count { λ _. ⌜ PlanCount ⌝ }
 {
     ()

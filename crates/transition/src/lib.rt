@@ -15,6 +15,7 @@ pub use laws::plan_ends_in_new;
 pub use laws::plan_is_prescribed;
 pub use laws::plan_is_smooth;
 pub use laws::plans_by_example;
+pub use laws::writes_are_local;
 pub use plan::plan_into;
 pub use refusal::Refusal;
 pub use refusal::RefusalDebug;
