@@ -1,4 +1,6 @@
 // Prefixes of IPv4 addresses: the bits that an address must begin with.
+#![tactic(auto)]
+
 mod cidr;
 mod compare;
 mod laws;

@@ -8,13 +8,17 @@ use Rattle.prefix.proofs.Joins.{shift_front, shift_clean}
 use Rattle.prefix.proofs.Meaning.{bits_length}
 use Rattle.prefix.proofs.cidr.Prefix.after.Goals as goal
 
-pub invariant-of-rest : goal.invariant-of-rest
-invariant-of-rest c =
+pub invariant_of-rest : goal.invariant_of-rest
+invariant_of-rest c =
     let p = c.args.self in
     let s = p.short in
     let h = c.requires in
     let e : c.args.n + 1 + (c.args.self.len - c.args.n - 1) ≡ c.args.self.len = omega arith in
-    (c.shl.type-inv, (omega arith, (rw c.shl.ensures (shift_clean 32 (c.args.n + 1) p.network (omega arith) (p.len - c.args.n - 1) (omega arith) (rw e p.clean)), tt)))
+    record {
+      word = c.shl.type_inv;
+      short = omega arith;
+      clean = rw c.shl.ensures (shift_clean 32 (c.args.n + 1) p.network (omega arith) (p.len - c.args.n - 1) (omega arith) (rw e p.clean));
+    }
 
 pub returns : goal.returns
 returns c =

@@ -10,15 +10,19 @@ returns-then-len-self c =
     let l = bits_length c.args.self in
     record { value = sym (take_all c.args.len (bits c.args.self) (omega arith)); long = omega arith }
 
-pub invariant-of-result : goal.invariant-of-result
-invariant-of-result c =
-    (c.first-bits.type-inv, (omega (arith, c.args.self.short), (rw c.first-bits.ensures (cleared_mod c.args.self.network (32 - c.args.len)), tt)))
+pub invariant_of-result : goal.invariant_of-result
+invariant_of-result c =
+    record {
+      word = c.first_bits.type_inv;
+      short = omega (arith, c.args.self.short);
+      clean = rw c.first_bits.ensures (cleared_mod c.args.self.network (32 - c.args.len));
+    }
 
 pub returns : goal.returns
 returns c =
     let p = c.args.self in
     let h : c.args.len ≤ 32 = omega (arith, p.short) in
     let e =
-    ap (λ v. take c.args.len (bits_of 32 v)) c.first-bits.ensures ∙ bits_cleared 32 c.args.len p.network h
+    ap (λ v. take c.args.len (bits_of 32 v)) c.first_bits.ensures ∙ bits_cleared 32 c.args.len p.network h
     ∙ sym (take-take c.args.len p.len (bits_of 32 p.network) (omega arith)) in
     record { value = e; long = ap length e ∙ length-take c.args.len (bits p) }

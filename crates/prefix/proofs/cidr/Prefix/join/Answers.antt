@@ -25,21 +25,25 @@ module _ (p q : Prefix) (s : Bool) (side left right : ℕ) (room : p.len + q.len
 pub returns-then-self-rest-ge32 : goal.returns-then-self-rest-ge32
 returns-then-self-rest-ge32 c = omega (arith, bits_length c.args.self, bits_length c.args.rest)
 
-pub overflow-add-network : goal.overflow-add-network
-overflow-add-network c =
+pub overflow_add-network : goal.overflow_add-network
+overflow_add-network c =
     let f = fits c.args.self c.args.rest c.args.side _ _ _ c.if-self-rest-ge32.false c.from.ensures c.shl.ensures c.shr.ensures in omega arith
 
-pub overflow-add-network-2 : goal.overflow-add-network-2
-overflow-add-network-2 c =
+pub overflow_add-network-2 : goal.overflow_add-network-2
+overflow_add-network-2 c =
     let f = fits c.args.self c.args.rest c.args.side _ _ _ c.if-self-rest-ge32.false c.from.ensures c.shl.ensures c.shr.ensures in omega arith
 
-pub invariant-of-result : goal.invariant-of-result
-invariant-of-result c =
+pub invariant_of-result : goal.invariant_of-result
+invariant_of-result c =
     let p = c.args.self in
     let q = c.args.rest in
     let f = fits p q c.args.side _ _ _ c.if-self-rest-ge32.false c.from.ensures c.shl.ensures c.shr.ensures in
     let e = added p q c.args.side _ _ _ c.if-self-rest-ge32.false c.from.ensures c.shl.ensures c.shr.ensures in
-    (f, (omega arith, (rw e (join_clean 32 p.len p.network q.network c.args.side (omega arith) p.word p.clean q.word q.len (omega arith) q.clean), tt)))
+    record {
+      word = f;
+      short = omega arith;
+      clean = rw e (join_clean 32 p.len p.network q.network c.args.side (omega arith) p.word p.clean q.word q.len (omega arith) q.clean);
+    }
 
 pub returns : goal.returns
 returns c =

@@ -13,7 +13,7 @@ shared p q n e = rw e (shares (bits p) (bits q))
 
 within : (p q : Prefix) (n : ℕ) → n ≡ common (bits p) (bits q) → (n ≤ p.len) × (n ≤ q.len)
 within p q n e =
-    let c = shared p q n e in (omega (arith, c.in-p, bits_length p), omega (arith, c.in_q, bits_length q))
+    let c = shared p q n e in (omega (arith, c.in_p, bits_length p), omega (arith, c.in_q, bits_length q))
 
 pub returns-then-n-self : goal.returns-then-n-self
 returns-then-n-self c =
