@@ -1,4 +1,6 @@
 // Routes, tables of them, and longest-prefix match.
+#![tactic(auto)]
+
 mod edit;
 mod laws;
 mod limits;

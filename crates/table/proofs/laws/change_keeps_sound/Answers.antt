@@ -3,4 +3,4 @@ use Rattle.table.proofs.Rising.{rising_distinct, stays_rising}
 use Rattle.table.proofs.laws.change_keeps_sound.Goals as goal
 
 pub returns : goal.returns
-returns c = record { count_put = count_put; count-drop = count_without; sound = stays_sound; rising = stays_rising; distinct = rising_distinct }
+returns c = record { count_put = count_put; count_drop = count_without; sound = stays_sound; rising = stays_rising; distinct = rising_distinct }

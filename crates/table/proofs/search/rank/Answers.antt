@@ -13,14 +13,14 @@ loop-low-init c =
     let m = length-map c.args.routes.now entry_of in
     (omega arith, omega arith, λ k h. absurd (omega arith), λ k h i. absurd (omega arith))
 
-pub at-or-before-requires : goal.at-or-before-requires
-at-or-before-requires c =
+pub at_or_before-requires : goal.at_or_before-requires
+at_or_before-requires c =
     let l = ap length c.requires.indexed ∙ length-map c.args.routes.now network_of in
     let i = c.loop-low.invariant in
     record { within = omega (arith, i.0, i.1); indexed = c.requires.indexed }
 
-pub loop-low-preserved-then-at-or-before : goal.loop-low-preserved-then-at-or-before
-loop-low-preserved-then-at-or-before c =
+pub loop-low-preserved-then-at_or_before : goal.loop-low-preserved-then-at_or_before
+loop-low-preserved-then-at_or_before c =
     let l = ap length c.requires.indexed ∙ length-map c.args.routes.now network_of in
     let m = length-map c.args.routes.now entry_of in
     let i = c.loop-low.invariant in
@@ -28,7 +28,7 @@ loop-low-preserved-then-at-or-before c =
     let h : c.loop-low.low + (c.loop-low.high - c.loop-low.low) / 2 < length (map entry_of c.args.routes.now) = omega (arith, i.0, i.1) in (
       omega (arith, i.0),
       i.1,
-      (λ k b. low_side (map entry_of c.args.routes.now) (bits c.args.key) k middle c.requires.ordered h (not-true _ (sym c.if-at-or-before.ensures)) (omega arith)),
+      (λ k b. low_side (map entry_of c.args.routes.now) (bits c.args.key) k middle c.requires.ordered h (not-true _ (sym c.if-at_or_before.ensures)) (omega arith)),
       i.3,
     )
 
@@ -39,7 +39,7 @@ loop-low-preserved c =
       omega arith,
       omega (arith, i.0, i.1),
       i.2,
-      λ k b e. high_side (map entry_of c.args.routes.now) (bits c.args.key) middle k c.requires.ordered (not-false _ (sym c.if-at-or-before.ensures)) b e,
+      λ k b e. high_side (map entry_of c.args.routes.now) (bits c.args.key) middle k c.requires.ordered (not-false _ (sym c.if-at_or_before.ensures)) b e,
     )
 
 pub returns : goal.returns

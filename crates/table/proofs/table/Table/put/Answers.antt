@@ -13,35 +13,35 @@ use Rattle.table.proofs.table.Table.put.Goals as goal
 pub index-requires : goal.index-requires
 index-requires c = (within c.args.self.now _ _ c.in-Ok.ensures).in_routes
 
-pub index-mut-requires : goal.index-mut-requires
-index-mut-requires c = (within c.args.self.now _ _ c.in-Ok.ensures).in_routes
+pub index_mut-requires : goal.index_mut-requires
+index_mut-requires c = (within c.args.self.now _ _ c.in-Ok.ensures).in_routes
 
-pub invariant-of-self : goal.invariant-of-self
-invariant-of-self c =
-    let s = over_sound c.args.self.now c.args.route c.in-Ok.i c.in-Ok.ensures in (s.ordered, (s.indexed, tt))
+pub invariant_of-self : goal.invariant_of-self
+invariant_of-self c =
+    let s = over_sound c.args.self.now c.args.route c.in-Ok.i c.in-Ok.ensures in record { ordered = s.ordered; indexed = s.indexed }
 
 pub insert-requires : goal.insert-requires
 insert-requires c =
     let u = c.reserve.new.self in
-    (upto u _ _ (missing_at c.args.self.now u _ _ c.in-ok-reserve.ensures.same c.in-Err.ensures)).in_networks
+    (upto u _ _ (missing_at c.args.self.now u _ _ c.in_ok-reserve-in-Err.ensures.same c.in-Err.ensures)).in_networks
 
 pub insert-requires-in-Err : goal.insert-requires-in-Err
 insert-requires-in-Err c =
     let u = c.reserve.new.self in
-    (upto u _ _ (missing_at c.args.self.now u _ _ c.in-ok-reserve.ensures.same c.in-Err.ensures)).in_routes
+    (upto u _ _ (missing_at c.args.self.now u _ _ c.in_ok-reserve-in-Err.ensures.same c.in-Err.ensures)).in_routes
 
-pub invariant-of-self-in-Err : goal.invariant-of-self-in-Err
-invariant-of-self-in-Err c =
+pub invariant_of-self-in-Err : goal.invariant_of-self-in-Err
+invariant_of-self-in-Err c =
     let u = c.reserve.new.self in
     let i = c.in-Err.i in
-    let m = missing_at c.args.self.now u _ _ c.in-ok-reserve.ensures.same c.in-Err.ensures in
-    let h = has_room u c.in-ok-reserve.ensures.cases in
+    let m = missing_at c.args.self.now u _ _ c.in_ok-reserve-in-Err.ensures.same c.in-Err.ensures in
+    let h = has_room u c.in_ok-reserve-in-Err.ensures.cases in
     let r = c.insert-in-Err.ensures.items ∙ cond-true _ (insert (vec_items u.routes) i c.args.route) (vec_items u.routes) (c.insert-in-Err.ensures.succeeds h.0) in
     let n =
     c.insert.ensures.items ∙ cond-true _ (insert (vec_items u.networks) i c.network.result) (vec_items u.networks) (c.insert.ensures.succeeds h.1)
     ∙ ap (λ x. insert (vec_items u.networks) i x) c.network.ensures in
     let s = sound_at _ _ _ _ r n (between_sound u c.args.route i m) in
-    (s.ordered, (s.indexed, tt))
+    record { ordered = s.ordered; indexed = s.indexed }
 
 pub returns-in-Ok : goal.returns-in-Ok
 returns-in-Ok c =
@@ -55,11 +55,11 @@ returns-in-Ok c =
       uses = omega arith;
     }
 
-pub returns-in-err-reserve : goal.returns-in-err-reserve
-returns-in-err-reserve c =
+pub returns-in_err-reserve-in-Err : goal.returns-in_err-reserve-in-Err
+returns-in_err-reserve-in-Err c =
     let t = c.args.self.now in
-    let p = err_from_is_err_and c.from-residual.result c.from-residual.ensures.1 in
-    let e = c.in-err-reserve.ensures in
+    let p = err_from_is_err_and c.from_residual.result c.from_residual.ensures.1 in
+    let e = c.in_err-reserve-in-Err.ensures in
     rw p.1 (record {
       value = tt;
       after = e.same;
@@ -67,12 +67,12 @@ returns-in-err-reserve c =
       uses = omega (arith, e.keeps);
     })
 
-pub returns-in-ok-reserve : goal.returns-in-ok-reserve
-returns-in-ok-reserve c =
+pub returns-in_ok-reserve-in-Err : goal.returns-in_ok-reserve-in-Err
+returns-in_ok-reserve-in-Err c =
     let t = c.args.self.now in
     let u = c.reserve.new.self in
     let i = c.in-Err.i in
-    let e = c.in-ok-reserve.ensures in
+    let e = c.in_ok-reserve-in-Err.ensures in
     let m = missing_at t u _ _ e.same c.in-Err.ensures in
     let h = has_room u e.cases in
     let a = c.insert-in-Err.ensures.succeeds h.0 in

@@ -12,10 +12,10 @@ remove-requires c = (within c.args.self.now _ _ c.in-Ok.ensures).in_networks
 pub remove-requires-in-Ok : goal.remove-requires-in-Ok
 remove-requires-in-Ok c = (within c.args.self.now _ _ c.in-Ok.ensures).in_routes
 
-pub invariant-of-self : goal.invariant-of-self
-invariant-of-self c =
+pub invariant_of-self : goal.invariant_of-self
+invariant_of-self c =
     let s = sound_at _ _ _ _ c.remove-in-Ok.ensures.items c.remove.ensures.items (gone_sound c.args.self.now _ _ c.in-Ok.ensures) in
-    (s.ordered, (s.indexed, tt))
+    record { ordered = s.ordered; indexed = s.indexed }
 
 pub returns-in-Ok : goal.returns-in-Ok
 returns-in-Ok c =

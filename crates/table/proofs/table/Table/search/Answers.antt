@@ -26,10 +26,10 @@ returns-in-Equal c =
     let e = last_prefix t p _ c.index.result.now k c.if-end-eq0.false c.index.ensures in
     ranked_stands (entries t) p _ k c.if-end-eq0.false (c.in-Equal.ensures ∙ ap (λ (q : Bits). compared q p) (sym e))
 
-pub returns-in-default : goal.returns-in-default
-returns-in-default c =
+pub returns-in_default : goal.returns-in_default
+returns-in_default c =
     let t = c.args.self.now in
     let p = bits c.args.prefix in
     let k = ranked_at (vec_items t.routes) _ p _ c.deref-2.ensures.value c.rank-end.ensures in
     let e = last_prefix t p _ c.index.result.now k c.if-end-eq0.false c.index.ensures in
-    ranked_missing (entries t) p _ t.ordered k c.if-end-eq0.false (λ z. c.in-default.not-Equal (c.compare.ensures ∙ ap (λ (q : Bits). compared q p) (sym e) ∙ z))
+    ranked_missing (entries t) p _ t.ordered k c.if-end-eq0.false (λ z. c.in_default.not-Equal (c.compare.ensures ∙ ap (λ (q : Bits). compared q p) (sym e) ∙ z))
