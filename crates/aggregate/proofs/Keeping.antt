@@ -1,9 +1,8 @@
 -- Needs of the code that are kept for trees: joined, lifted along an edge, and what is chosen by them. Assumes nothing.
-use Rattle.std.proofs.Common.{◌≡◌, ℕ, zero, suc, ◌+◌, ◌-◌, ◌^◌, ◌<◌, ◌≤◌, min, Bool, true, false, cond, ◌&&◌, ◌||◌, eqb, List, [], ◌∷◌, length, sym, refl, ap, ◌∙◌, subst, ap₂, arith}
+use Rattle.std.proofs.Common.{◌≡◌, ℕ, zero, suc, ◌+◌, Bool, true, false, cond, ◌&&◌, ◌||◌, eqb, length, sym, refl, ap, ◌∙◌, subst, ap₂, arith}
 use mathlib.Core.Path.{fun_ext}
-use Rattle.std.proofs.lemmas.Bool.{both_ways, cond-true, cond-false, and_from, or_from, eq-eqb, eqb-true, ne_eqb}
+use Rattle.std.proofs.lemmas.Bool.{both_ways, cond-true, cond-false, or_from, ne_eqb}
 use Rattle.prefix.specs.Bits.{Bits}
-use Rattle.table.specs.Tables.{Entries}
 use Rattle.fewest.specs.declared.along.Along.{Along}
 use Rattle.fewest.specs.declared.along.Along.TheVariants.{Nothing, Top, Sides}
 use Rattle.fewest.specs.declared.choice.Choice.{Choice}

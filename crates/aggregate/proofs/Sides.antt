@@ -1,6 +1,5 @@
 -- The routes along an edge. Assumes nothing.
-use Rattle.std.proofs.Common.{◌≡◌, ℕ, zero, suc, ◌+◌, ◌-◌, ◌<◌, ◌≤◌, Bool, true, false, cond, ◌||◌, eqb, List, [], ◌∷◌, ◌++◌, length, take, drop, Some, None, Option, sym, refl, ap, ◌∙◌, subst, ap₂, append_assoc, append-nil, arith, length-drop, take-append-drop}
-use Rattle.std.proofs.lemmas.Bool.{cond_both, eq-eqb}
+use Rattle.std.proofs.Common.{◌≡◌, ℕ, zero, suc, ◌-◌, ◌<◌, ◌≤◌, Bool, true, false, cond, ◌||◌, eqb, [], ◌∷◌, ◌++◌, length, take, drop, Some, None, Option, sym, refl, ap, ◌∙◌, subst, ap₂, append-nil, arith, length-drop, take-append-drop}
 use Rattle.std.specs.List.{slice_get}
 use Rattle.prefix.specs.Bits.{Bits}
 use Rattle.table.specs.declared.route.Route.{Route}
@@ -10,8 +9,7 @@ use Rattle.fewest.specs.declared.along.Along.{Along}
 use Rattle.fewest.specs.declared.along.Along.TheVariants.{Nothing, Top, Sides}
 use Rattle.fewest.specs.Trees.{Tree}
 use Rattle.fewest.specs.Prescribed.{beneath, prescribed}
-use Rattle.fewest.specs.Edges.{edge, aside, along, onward, sides_before, sides_after, lines_before, lines_after}
-use Rattle.fewest.specs.Laws.{between}
+use Rattle.fewest.specs.Edges.{along, onward, sides_before, sides_after, lines_before, lines_after}
 use Rattle.fewest.proofs.Halves.{beneath_append, beneath_beneath, beneath_empty, beneath_line}
 use Rattle.aggregate.specs.declared.need.Need.{Need}
 use Rattle.aggregate.specs.declared.edge.EdgeRoutes.{EdgeRoutes}

@@ -1,5 +1,5 @@
 -- What the needs of the code mean. Assumes nothing.
-use Rattle.std.specs.Prelude.{◌≡◌, ℕ, zero, suc, ◌+◌, ◌-◌, ◌^◌, min, Bool, true, false, cond, ◌&&◌, ◌||◌, List, [], ◌∷◌, ◌==◌}
+use Rattle.std.specs.Prelude.{◌≡◌, ℕ, zero, suc, ◌+◌, ◌-◌, ◌^◌, min, Bool, true, false, cond, ◌&&◌, ◌||◌, ◌==◌}
 use Rattle.fewest.specs.Trees.{Tree}
 use Rattle.fewest.specs.Needs.{least, reaches}
 use Rattle.fewest.specs.Edges.{reach_above}

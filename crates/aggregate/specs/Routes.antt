@@ -1,5 +1,5 @@
 -- What the routes along an edge mean, as lines. Assumes nothing.
-use Rattle.std.specs.Prelude.{◌≡◌, ℕ, ◌-◌, Bool, List, [], ◌∷◌, ◌++◌, length, take, drop, Some, None, Option}
+use Rattle.std.specs.Prelude.{◌≡◌, ℕ, List, [], ◌∷◌, ◌++◌, take, drop, Some, None, Option}
 use Rattle.prefix.specs.Bits.{Bits}
 use Rattle.table.specs.declared.route.Route.{Route}
 use Rattle.table.specs.Routes.{entry_of}
@@ -7,7 +7,7 @@ use Rattle.table.specs.Tables.{Entries}
 use Rattle.fewest.specs.declared.along.Along.{Along}
 use Rattle.fewest.specs.Trees.{Tree}
 use Rattle.fewest.specs.Prescribed.{beneath, prescribed}
-use Rattle.fewest.specs.Edges.{edge, along, onward, sides_before, sides_after, lines_before, lines_after}
+use Rattle.fewest.specs.Edges.{edge, onward, lines_before, lines_after}
 use Rattle.aggregate.specs.declared.edge.EdgeRoutes.{EdgeRoutes}
 
 -- the lines of routes that are there or not

@@ -1,4 +1,6 @@
 // Working out the fewest lines: sets of next hops, needs, and what is written at a place and along an edge.
+#![tactic(auto)]
+
 mod choice;
 mod edge;
 pub mod hops;

@@ -1,19 +1,19 @@
 -- Edges: what they do to need, and which lines they bring. Assumes nothing.
-use Rattle.std.proofs.Common.{◌≡◌, ℕ, zero, suc, ◌+◌, ◌≤◌, Bool, true, false, cond, not, ◌&&◌, ◌||◌, eqb, ◌⊎◌, List, [], ◌∷◌, ◌++◌, length, sym, refl, ap, ◌∙◌, subst, ap₂, inl, inr, ⊎_elim, append_assoc, append-nil, add-zero, suc-add, zero-add, arith}
-use Rattle.std.proofs.lemmas.Bool.{or_left, or_right, or_from, or_parts, cases_Bool, cond-true, cond-false, cond_both, eq-eqb, eqb-true, and_parts, and_from, and_left, and_right, both_ways, ne_eqb, not-true, not-false, not_from_true, not_from_false, false≢true}
+use Rattle.std.proofs.Common.{◌≡◌, ℕ, zero, suc, ◌+◌, ◌≤◌, Bool, true, false, cond, not, ◌&&◌, ◌||◌, eqb, [], ◌∷◌, ◌++◌, length, sym, refl, ap, ◌∙◌, subst, ap₂, append_assoc, append-nil, add-zero, suc-add, zero-add, arith}
+use Rattle.std.proofs.lemmas.Bool.{or_left, or_right, or_from, or_parts, cond-true, cond-false, cond_both, eq-eqb, eqb-true, and_parts, and_from, and_left, and_right, ne_eqb, not-true, not-false, not_from_true, not_from_false, false≢true}
 use Rattle.prefix.specs.Bits.{Bits, begins}
 use Rattle.table.specs.Examples.{line}
 use Rattle.table.specs.Tables.{Entries}
 use Rattle.fewest.specs.declared.along.Along.{Along}
-use Rattle.fewest.specs.declared.along.Along.TheVariants.{Nothing, Top, Sides}
+use Rattle.fewest.specs.declared.along.Along.TheVariants.{Top, Sides}
 use Rattle.fewest.specs.Trees.{Tree, Leaf, Fork, Fits, goes, all_to}
 use Rattle.fewest.specs.Needs.{need, least, reaches, both, meet}
 use Rattle.fewest.specs.Prescribed.{beneath, forked, single, prescribed}
-use Rattle.fewest.specs.Edges.{edge, least_above, reach_above, aside, along, onward, sides_before, sides_after, lines_before, lines_after}
+use Rattle.fewest.specs.Edges.{edge, reach_above, aside, along, sides_before, sides_after}
 use Rattle.fewest.specs.Laws.{EdgeSends, EdgeKept, between, EdgeLines}
 use Rattle.fewest.proofs.Forks.{all_prescribed}
 use Rattle.fewest.proofs.Kept.{determined, uniform_kept, meet_from, meet_not, joined, writes, single_none, single_one, stays, writes_line}
-use Rattle.fewest.proofs.Halves.{beneath_none, beneath_beneath, beneath_append, beneath_empty, beneath_line, forked_low, forked_high}
+use Rattle.fewest.proofs.Halves.{beneath_none, beneath_beneath, beneath_append, beneath_empty, forked_low, forked_high}
 
 -- the other side of a bit
 leaf_all : (x : ℕ) → all_to x (Leaf x) ≡ true

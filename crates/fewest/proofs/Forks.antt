@@ -1,12 +1,12 @@
 -- Need at a fork, by one law for all forks; trees of one next hop; the best next hop. Assumes nothing.
-use Rattle.std.proofs.Common.{◌≡◌, ℕ, ◌+◌, ◌<◌, ◌≤◌, min, Bool, true, false, cond, ◌&&◌, ◌||◌, eqb, leb, ◌⊎◌, List, [], ◌∷◌, ◌++◌, sym, refl, ap, ◌∙◌, ap₂, inl, inr, ⊎_elim, arith}
-use Rattle.std.proofs.lemmas.Bool.{or_parts, or_left, or_right, cases_Bool, cond-true, cond-false, cond_both, eq-eqb, eqb-true, and_parts, leb-true, leb-false}
+use Rattle.std.proofs.Common.{◌≡◌, ℕ, ◌+◌, ◌<◌, ◌≤◌, min, true, false, eqb, leb, [], ◌∷◌, sym, refl, ap, ◌∙◌, ⊎_elim, arith}
+use Rattle.std.proofs.lemmas.Bool.{or_parts, or_left, or_right, cases_Bool, cond-true, cond-false, cond_both, eqb-true, and_parts, leb-true, leb-false}
 use Rattle.std.proofs.lemmas.Bool.Decides.{nat_tests}
 use Rattle.prefix.specs.Bits.{Bits}
 use Rattle.table.specs.Examples.{line}
 use Rattle.table.specs.Tables.{Entries}
 use Rattle.fewest.specs.Trees.{Tree, Leaf, Fork, first, goes, hops, elem, all_to, uniform}
-use Rattle.fewest.specs.Needs.{unlike, lowest_over, need}
+use Rattle.fewest.specs.Needs.{unlike, need}
 use Rattle.fewest.specs.Prescribed.{forked, single, below, lowest_below, best, prescribed}
 use Rattle.fewest.specs.Laws.{BestIs}
 use Rattle.fewest.proofs.Lowest.{elem_append, elem_here, elem_one, lowest_elem, lowest_from, Wins, best_wins, best_in}

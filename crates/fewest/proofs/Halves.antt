@@ -1,5 +1,5 @@
 -- Lines put under bits, and the lines of two halves put together. Assumes nothing.
-use Rattle.std.proofs.Common.{◌≡◌, ℕ, suc, ◌+◌, ◌≤◌, Bool, true, false, cond, not, ◌&&◌, eqb, leb, List, [], ◌∷◌, ◌++◌, length, Some, None, Option, sym, refl, ap, ◌∙◌, ap₂, append_assoc, append-nil, arith, length-append}
+use Rattle.std.proofs.Common.{◌≡◌, ℕ, suc, ◌+◌, Bool, true, false, cond, not, ◌&&◌, eqb, leb, [], ◌∷◌, ◌++◌, length, None, sym, refl, ap, ◌∙◌, ap₂, append_assoc, append-nil, arith, length-append}
 use lib.Dec.{leb-suc-suc}
 use Rattle.std.proofs.lemmas.Bool.{and_parts, and_from, cond_both, eqb-true, le-leb}
 use Rattle.prefix.specs.Bits.{Bits, same_bit, begins, before}

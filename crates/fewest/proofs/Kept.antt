@@ -1,18 +1,17 @@
 -- Need by its lowest value and the next hops that reach it; how both come from two halves; the choice in these terms. Assumes nothing.
-use Rattle.std.proofs.Common.{◌≡◌, ℕ, suc, ◌+◌, ◌<◌, ◌≤◌, min, Bool, true, false, cond, not, ◌&&◌, ◌||◌, eqb, ltb, leb, ◌⊎◌, List, [], ◌∷◌, ◌++◌, sym, refl, ap, ◌∙◌, ap₂, inl, inr, ⊎_elim, arith}
-use mathlib.Core.Bool.{false≢true}
-use Rattle.std.proofs.lemmas.Bool.{or_cases, or_parts, or_left, or_right, cases_Bool, cond-true, cond-false, cond_both, eq-eqb, eqb-true, eqb-false, ne_eqb, and_parts, and_from, both_ways, not-true, not-false, not_from_true, not_from_false, le-ltb, lt-ltb, cases_lt}
+use Rattle.std.proofs.Common.{◌≡◌, ℕ, suc, ◌+◌, ◌<◌, ◌≤◌, min, Bool, true, false, cond, not, ◌&&◌, ◌||◌, eqb, ltb, [], ◌∷◌, sym, refl, ap, ◌∙◌, ap₂, ⊎_elim, arith}
+use Rattle.std.proofs.lemmas.Bool.{or_cases, or_left, cases_Bool, cond-true, cond-false, eq-eqb, eqb-true, eqb-false, ne_eqb, and_parts, and_from, both_ways, not-true, not-false, not_from_false, le-ltb, lt-ltb, cases_lt}
 use Rattle.std.proofs.lemmas.Bool.Decides.{nat_tests}
 use Rattle.table.specs.Examples.{line}
 use Rattle.table.specs.Tables.{Entries}
 use Rattle.fewest.specs.declared.choice.Choice.{Choice}
 use Rattle.fewest.specs.declared.choice.Choice.TheVariants.{Stay, Line}
 use Rattle.fewest.specs.Trees.{Tree, Leaf, Fork, first, hops, elem, all_to, uniform}
-use Rattle.fewest.specs.Needs.{unlike, lowest_over, need, least, reaches, some, both, meet}
+use Rattle.fewest.specs.Needs.{unlike, need, least, reaches, both, meet}
 use Rattle.fewest.specs.Prescribed.{beneath, forked, single, below, lowest_below, best, prescribed}
 use Rattle.fewest.specs.Laws.{LeastIs, Determined, UniformKept, MeetIs, Joined, Chooses, lines_by, Chosen}
-use Rattle.fewest.proofs.Lowest.{elem_here, elem_one, lowest_elem, lowest_from, some_elem, elem_some, Wins}
-use Rattle.fewest.proofs.Forks.{fork_low, fork_high, first_in, all_first, all_uniform, all_need, best_in_hops, best_wins_at, best_lowest, best_one, lowest_at, lowest_over_lem, need_fork, need_leaf, all_prescribed, prescribed_by}
+use Rattle.fewest.proofs.Lowest.{lowest_elem, lowest_from, some_elem, elem_some}
+use Rattle.fewest.proofs.Forks.{fork_low, fork_high, first_in, all_first, all_need, best_wins_at, best_lowest, best_one, lowest_at, lowest_over_lem, need_fork, all_prescribed, prescribed_by}
 
 -- a number and a set of next hops say how few lines a tree needs
 pub record Says (t : Tree) (n : ℕ) (s : ℕ → Bool) : Type 0 where

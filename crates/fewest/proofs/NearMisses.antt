@@ -1,14 +1,14 @@
 -- Joining neighbours falls short, and the usual choice gives another table. Assumes nothing.
-use Rattle.std.proofs.Common.{◌≡◌, ℕ, zero, suc, ◌+◌, ◌<◌, ◌≤◌, Bool, true, false, cond, ◌&&◌, ◌||◌, eqb, leb, ◌⊎◌, List, [], ◌∷◌, ◌++◌, length, sym, refl, ap, ◌∙◌, subst, ap₂, inl, inr, ⊎_elim, arith, length-append}
-use Rattle.std.proofs.lemmas.Bool.{and_parts, and_left, and_right, or_from, cases_Bool, cond-true, cond-false, eqb-true, leb-true}
+use Rattle.std.proofs.Common.{◌≡◌, ℕ, ◌<◌, ◌≤◌, true, false, eqb, leb, ◌⊎◌, List, [], ◌∷◌, length, sym, refl, ap, ◌∙◌, subst, ap₂, inl, inr, ⊎_elim, arith, length-append}
+use Rattle.std.proofs.lemmas.Bool.{and_parts, and_left, and_right, or_from, cases_Bool, cond-false, eqb-true, leb-true}
 use Rattle.std.proofs.lemmas.Bool.Decides.{nat_tests}
-use Rattle.prefix.specs.Bits.{Bits, Address, begins, same, before}
+use Rattle.prefix.specs.Bits.{Bits, begins, same, before}
 use Rattle.table.specs.Examples.{line}
 use Rattle.table.specs.Tables.{Entry, Entries, find, SendSame, has, distinct, every, sound, holds, without, insert}
 use Rattle.fewest.specs.Trees.{tree_at, tree_of, first, hops, all_to}
 use Rattle.fewest.specs.Needs.{lowest_over, need, fewest, some}
-use Rattle.fewest.specs.Prescribed.{beneath, best_of, prescribed, short}
-use Rattle.fewest.specs.NearMisses.{lower, upper, joinable, join, join_all, quartered, halved, JoiningFallsShort, eager, partly, EagerIsAnother}
+use Rattle.fewest.specs.Prescribed.{beneath, best_of, prescribed}
+use Rattle.fewest.specs.NearMisses.{lower, joinable, join, join_all, quartered, halved, JoiningFallsShort, eager, partly, EagerIsAnother}
 
 -- a prefix longer than all of a table is none of its
 same_longer : (q p : Bits) → length p < length q → same q p ≡ false

@@ -1,15 +1,14 @@
 -- The prescribed table: where it sends, how many lines it has, that it is sound and in order, and its next hops. Assumes nothing.
-use Rattle.std.proofs.Common.{◌≡◌, ℕ, zero, suc, ◌+◌, ◌<◌, ◌≤◌, min, Bool, true, false, cond, not, ◌&&◌, ◌||◌, eqb, leb, ◌⊎◌, List, [], ◌∷◌, ◌++◌, length, Some, None, Option, sym, refl, ap, ◌∙◌, ap₂, inl, inr, ⊎_elim, arith}
-use Rattle.std.proofs.lemmas.Bool.{and_parts, and_from, or_left, or_right, or_cases, cond_both, eq-eqb, eqb-true, le-leb}
+use Rattle.std.proofs.Common.{◌≡◌, ℕ, zero, suc, ◌+◌, Bool, true, false, ◌||◌, eqb, leb, [], ◌∷◌, length, Some, None, Option, sym, refl, ap, ◌∙◌, ap₂, arith}
+use Rattle.std.proofs.lemmas.Bool.{and_parts, and_from, or_left, or_right, cond_both, eq-eqb}
 use Rattle.prefix.specs.Bits.{Bits, Address, begins}
 use Rattle.table.specs.declared.lookups.Match.{Match}
-use Rattle.table.specs.Examples.{line}
-use Rattle.table.specs.Tables.{Entry, Entries, longer, find, hop_of, sends, SendSame, distinct, every, fits, sound, rising}
+use Rattle.table.specs.Tables.{Entries, longer, find, hop_of, sends, distinct, every, fits, rising}
 use Rattle.table.proofs.Rising.{rising_distinct}
-use Rattle.fewest.specs.Trees.{Tree, Leaf, Fork, Fits, tree_at, tree_of, first, goes, hops, elem, all_to, uniform}
-use Rattle.fewest.specs.Needs.{unlike, need, fewest}
-use Rattle.fewest.specs.Prescribed.{forked, single, below, lowest_below, best, prescribed, short}
-use Rattle.fewest.specs.Laws.{SendsAs, KeepsSound, InOrder, has_hop, HopsAmong, CountIs, Shortest, ShortIsShortest}
+use Rattle.fewest.specs.Trees.{Tree, Leaf, Fork, Fits, tree_of, first, goes, hops, elem, uniform}
+use Rattle.fewest.specs.Needs.{need}
+use Rattle.fewest.specs.Prescribed.{forked, below, best, prescribed, short}
+use Rattle.fewest.specs.Laws.{SendsAs, KeepsSound, InOrder, has_hop, HopsAmong, CountIs, ShortIsShortest}
 use Rattle.fewest.proofs.Lowest.{elem_one}
 use Rattle.fewest.proofs.Forks.{fork_low, fork_high, first_in, all_goes, all_need, best_in_hops, best_lowest, need_fork, need_leaf, prescribed_by}
 use Rattle.fewest.proofs.Split.{hop_or, sends_or}

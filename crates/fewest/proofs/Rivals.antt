@@ -1,15 +1,15 @@
 -- The tree of beginnings, and that no table has fewer lines than its tree needs. Assumes nothing.
-use Rattle.std.proofs.Common.{◌≡◌, ℕ, zero, suc, ◌+◌, ◌≤◌, Bool, true, false, cond, ◌&&◌, ◌||◌, eqb, ◌⊎◌, List, [], ◌∷◌, ◌++◌, length, sym, refl, ap, ◌∙◌, ap₂, inl, inr, ⊎_elim, append_assoc, append-nil, arith}
-use Rattle.std.proofs.lemmas.Bool.{or_cases, or_left, or_right, cases_Bool, eq-eqb, eqb-true, and_from}
+use Rattle.std.proofs.Common.{◌≡◌, ℕ, zero, suc, ◌+◌, ◌≤◌, Bool, true, false, cond, eqb, [], ◌∷◌, ◌++◌, length, sym, refl, ap, ◌∙◌, ap₂, ⊎_elim, append_assoc, append-nil, arith}
+use Rattle.std.proofs.lemmas.Bool.{or_cases, cases_Bool, eq-eqb, eqb-true, and_from}
 use Rattle.std.proofs.lemmas.Bool.Decides.{nat_tests}
 use Rattle.prefix.specs.Bits.{Bits, Address}
 use Rattle.table.specs.Tables.{Entries, find, sends, SendSame}
-use Rattle.fewest.specs.Trees.{Tree, Leaf, Fork, Fits, tree_at, tree_of, first, goes, hops, elem, all_to, uniform}
-use Rattle.fewest.specs.Needs.{unlike, need, fewest}
-use Rattle.fewest.specs.Prescribed.{short, prescribed, below}
+use Rattle.fewest.specs.Trees.{Tree, Leaf, Fork, Fits, tree_at, tree_of, goes, hops, elem, all_to}
+use Rattle.fewest.specs.Needs.{need}
+use Rattle.fewest.specs.Prescribed.{prescribed}
 use Rattle.fewest.specs.Laws.{TreeSends, TreeHops, TreeUniform, NoneFewer, SendingDecides}
 use Rattle.fewest.proofs.Lowest.{elem_append, elem_one}
-use Rattle.fewest.proofs.Forks.{fork_low, fork_high, fork_out, all_uniform, all_goes, need_stay, need_line, need_leaf, need_outside}
+use Rattle.fewest.proofs.Forks.{fork_low, fork_high, fork_out, all_uniform, all_goes, need_stay, need_line, need_outside}
 use Rattle.fewest.proofs.Split.{hop_or, sends_or, under, roots, hop_split, length_split, no_roots}
 
 -- the tree of a function, by the first bit

@@ -1,12 +1,11 @@
 -- Trees of another shape that send the same: the same need, and the same prescribed lines. Assumes nothing.
-use Rattle.std.proofs.Common.{◌≡◌, ℕ, zero, suc, ◌+◌, ◌≤◌, Bool, true, false, cond, not, ◌&&◌, ◌||◌, eqb, List, [], ◌∷◌, ◌++◌, sym, refl, ap, ◌∙◌, ap₂}
+use Rattle.std.proofs.Common.{◌≡◌, ℕ, zero, suc, ◌+◌, Bool, true, false, cond, not, ◌&&◌, ◌||◌, [], ◌∷◌, sym, refl, ap, ◌∙◌, ap₂}
 use Rattle.std.proofs.lemmas.Bool.{eq-eqb, and_parts}
-use Rattle.prefix.specs.Bits.{Bits, Address}
 use Rattle.table.specs.Examples.{line}
 use Rattle.table.specs.Tables.{Entries, sends}
 use Rattle.fewest.specs.Trees.{Tree, Leaf, Fork, Fits, tree_of, goes, all_to}
 use Rattle.fewest.specs.Needs.{need, least, reaches, both, meet}
-use Rattle.fewest.specs.Prescribed.{forked, single, best, prescribed}
+use Rattle.fewest.specs.Prescribed.{forked, best, prescribed}
 use Rattle.fewest.specs.Laws.{ShapeIsFree}
 use Rattle.fewest.proofs.Forks.{all_prescribed}
 use Rattle.fewest.proofs.Kept.{determined, uniform_kept, meet_is, meet_from, meet_not, joined, writes, best_reaches, best_least, stays, writes_line}

@@ -1,12 +1,12 @@
 -- A table taken apart: its lines for all addresses, its lines under 0 and those under 1. Assumes nothing.
-use Rattle.std.proofs.Common.{◌≡◌, ℕ, suc, ◌+◌, Bool, true, false, cond, ◌&&◌, leb, List, [], ◌∷◌, length, Some, None, Option, sym, refl, ap, ◌∙◌, subst, arith}
+use Rattle.std.proofs.Common.{◌≡◌, ℕ, suc, ◌+◌, Bool, true, false, cond, ◌&&◌, leb, [], ◌∷◌, length, Some, None, Option, refl, ap, ◌∙◌, arith}
 use lib.Dec.{leb-suc-suc, leb-suc-zero}
 use Rattle.std.proofs.lemmas.Bool.{cond-true, cond_both, le-leb}
 use Rattle.prefix.specs.Bits.{Bits, same_bit, begins}
 use Rattle.table.specs.declared.lookups.Match.{Match}
 use Rattle.table.specs.Examples.{by}
 use Rattle.table.specs.Examples.{line}
-use Rattle.table.specs.Tables.{Entry, Entries, matched, longer, find, hop_of, sends}
+use Rattle.table.specs.Tables.{Entries, matched, longer, find, hop_of, sends}
 
 -- the next hop found, or h
 abbrev pub hop_or : ℕ → Option Match → ℕ

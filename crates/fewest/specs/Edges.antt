@@ -1,13 +1,13 @@
 -- Edges: ways of some bits down to a tree, on whose other sides all addresses go to one next hop. What they do to need and which lines they
 -- bring is known without going along them bit by bit. Assumes nothing.
-use Rattle.std.specs.Prelude.{ℕ, zero, suc, Bool, true, false, cond, not, ◌&&◌, ◌||◌, List, [], ◌∷◌, ◌++◌, ◌==◌}
+use Rattle.std.specs.Prelude.{ℕ, zero, suc, Bool, true, false, cond, not, ◌&&◌, ◌||◌, [], ◌∷◌, ◌++◌, ◌==◌}
 use Rattle.prefix.specs.Bits.{Bits}
 use Rattle.table.specs.Examples.{line}
 use Rattle.table.specs.Tables.{Entries}
 use Rattle.fewest.specs.declared.along.Along.{Along}
 use Rattle.fewest.specs.declared.along.Along.TheVariants.{Nothing, Top, Sides}
 use Rattle.fewest.specs.Trees.{Tree, Leaf, Fork}
-use Rattle.fewest.specs.Needs.{need, least, reaches}
+use Rattle.fewest.specs.Needs.{need, least}
 use Rattle.fewest.specs.Prescribed.{beneath}
 
 -- a tree at the end of some bits, bit by bit, where all addresses that part from them go to x

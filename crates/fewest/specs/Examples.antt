@@ -1,11 +1,11 @@
 -- The definitions on small trees and tables. Assumes nothing.
-use Rattle.std.specs.Prelude.{◌≡◌, ℕ, true, false, List, [], ◌∷◌}
+use Rattle.std.specs.Prelude.{◌≡◌, true, false, [], ◌∷◌}
 use Rattle.table.specs.Examples.{line}
 use Rattle.table.specs.Tables.{Entries}
 use Rattle.fewest.specs.declared.along.Along.TheVariants.{Nothing, Top, Sides}
-use Rattle.fewest.specs.Trees.{Tree, Leaf, Fork, tree_at, tree_of, goes, hops, uniform}
+use Rattle.fewest.specs.Trees.{Tree, Leaf, Fork, tree_of, goes, hops, uniform}
 use Rattle.fewest.specs.Needs.{need, fewest, least, reaches, meet}
-use Rattle.fewest.specs.Prescribed.{beneath, best, prescribed, short}
+use Rattle.fewest.specs.Prescribed.{beneath, best, short}
 use Rattle.fewest.specs.Edges.{edge, along, lines_before, lines_after}
 
 -- 00 to 1, 01 to 2, 1 to 1

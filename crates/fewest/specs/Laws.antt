@@ -1,12 +1,12 @@
 -- What holds of need and of the prescribed table, for any table and any width; each statement is a theorem. Assumes nothing.
-use Rattle.std.specs.Prelude.{◌≡◌, ℕ, suc, ◌+◌, ◌≤◌, Bool, true, false, cond, not, ◌&&◌, ◌||◌, List, [], ◌∷◌, ◌++◌, length, ◌==◌}
+use Rattle.std.specs.Prelude.{◌≡◌, ℕ, suc, ◌+◌, ◌≤◌, Bool, true, false, cond, ◌&&◌, ◌||◌, [], ◌∷◌, ◌++◌, length, ◌==◌}
 use Rattle.prefix.specs.Bits.{Bits, Address, begins}
 use Rattle.table.specs.Examples.{line}
-use Rattle.table.specs.Tables.{Entry, Entries, sends, SendSame, every, sound, rising}
+use Rattle.table.specs.Tables.{Entries, sends, SendSame, every, sound, rising}
 use Rattle.fewest.specs.declared.along.Along.{Along}
 use Rattle.fewest.specs.declared.choice.Choice.{Choice}
 use Rattle.fewest.specs.declared.choice.Choice.TheVariants.{Stay, Line}
-use Rattle.fewest.specs.Trees.{Tree, Leaf, Fork, Fits, tree_at, tree_of, goes, hops, elem, all_to, uniform}
+use Rattle.fewest.specs.Trees.{Tree, Fork, Fits, tree_at, goes, hops, elem, all_to, uniform}
 use Rattle.fewest.specs.Needs.{need, fewest, least, reaches, both, meet}
 use Rattle.fewest.specs.Prescribed.{beneath, forked, below, lowest_below, best, prescribed, short}
 use Rattle.fewest.specs.Edges.{edge, least_above, reach_above, along, onward, lines_before, lines_after}

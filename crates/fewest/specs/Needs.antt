@@ -1,5 +1,5 @@
 -- How few lines a part of the addresses needs. Assumes nothing.
-use Rattle.std.specs.Prelude.{ℕ, ◌+◌, min, Bool, false, cond, ◌&&◌, ◌||◌, List, [], ◌∷◌, ◌++◌, ◌==◌}
+use Rattle.std.specs.Prelude.{ℕ, ◌+◌, min, Bool, false, cond, ◌&&◌, ◌||◌, List, [], ◌∷◌, ◌==◌}
 use Rattle.table.specs.Tables.{Entries}
 use Rattle.fewest.specs.Trees.{Tree, Leaf, Fork, tree_of, first, hops, uniform}
 

@@ -1,5 +1,7 @@
 // The fewest lines: need, the prescribed table, and that no table whatever has fewer. These are definitions and theorems;
 // the code that works needs out is in the crate above.
+#![tactic(auto)]
+
 mod along;
 mod choice;
 mod laws;

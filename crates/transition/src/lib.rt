@@ -1,4 +1,6 @@
 // Going over from one table to another: writes, plans of them, and no wrong moment.
+#![tactic(auto)]
+
 mod count;
 mod fill;
 mod laws;

@@ -1,6 +1,5 @@
-use Rattle.std.proofs.Common.{◌≡◌, Bool, true, false, ◌&&◌, ◌||◌, sym, ◌∙◌}
+use Rattle.std.proofs.Common.{◌≡◌, true, false, ◌||◌, sym, ◌∙◌}
 use Rattle.std.proofs.lemmas.Bool.{both_ways}
-use Rattle.fewest.specs.declared.choice.Choice.{Choice}
 use Rattle.fewest.specs.declared.choice.Choice.TheVariants.{Stay, Line}
 use Rattle.fewest.specs.Laws.{Chooses}
 use Rattle.aggregate.specs.Model.{among}

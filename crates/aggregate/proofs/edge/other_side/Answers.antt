@@ -1,4 +1,4 @@
-use Rattle.std.proofs.Common.{◌≡◌, Bool, true, false, not, [], ◌∷◌, ◌++◌, length, take, drop, sym, ap, ◌∙◌, arith}
+use Rattle.std.proofs.Common.{◌≡◌, Bool, true, false, not, [], ◌∷◌, ◌++◌, take, drop, ap, ◌∙◌, arith}
 use Rattle.prefix.specs.Bits.{Bits}
 use Rattle.prefix.specs.Model.{bits}
 use Rattle.table.specs.Examples.{line}
@@ -6,16 +6,16 @@ use Rattle.table.proofs.Places.{key_short}
 use Rattle.aggregate.proofs.Sides.{bit_past, bit_at, bit_within, none_aside, aside_one, aside_zero}
 use Rattle.aggregate.proofs.edge.other_side.Goals as goal
 
-pub returns-in-default : goal.returns-in-default
-returns-in-default c =
-    let past : take 1 (drop c.args.place (bits c.args.node)) ≡ [] = bit_past (bits c.args.node) c.args.place c.in-default.ensures in
+pub returns-in_default : goal.returns-in_default
+returns-in_default c =
+    let past : take 1 (drop c.args.place (bits c.args.node)) ≡ [] = bit_past (bits c.args.node) c.args.place c.in_default.ensures in
     let none = none_aside c.args.hop (take c.args.place (bits c.args.node)) _ past in
     record { earlier = none.0; later = none.1 }
 
 -- a bit at this place is not the last but all of an address
-pub returns-in-default-child : goal.returns-in-default-child
-returns-in-default-child c =
-    absurd (omega (arith, c.in-default-child.ensures, c.cut.ensures.long, bit_within (bits c.args.node) c.args.place c.in-Some.bit c.in-Some.ensures, key_short c.args.node))
+pub returns-in_default-child : goal.returns-in_default-child
+returns-in_default-child c =
+    absurd (omega (arith, c.in_default-child.ensures, c.cut.ensures.long, bit_within (bits c.args.node) c.args.place c.in-Some.bit c.in-Some.ensures, key_short c.args.node))
 
 pub returns-then-bit : goal.returns-then-bit
 returns-then-bit c =

@@ -1,7 +1,7 @@
 use Rattle.table.specs.Model.{entries}
 use Rattle.transition.proofs.Held.{counting_none, counting_other, counting_same, counting_new, counting_all}
 use Rattle.transition.proofs.count.count_differing.Goals as goal
-use Rattle.transition.proofs.count.count_differing.Goals.{in-Some+then-next-hop-route, in-Some+else-next-hop-route, in-None}
+use Rattle.transition.proofs.count.count_differing.Goals.{in-Some+then-next_hop-route, in-Some+else-next_hop-route, in-None}
 
 pub loop-route-init : goal.loop-route-init
 loop-route-init c = counting_none (entries c.args.old.now) c.routes-routes.result.now
@@ -13,10 +13,10 @@ loop-route-preserved c =
     let l = c.loop-route in
     let r = c.route-item in
     elim c.match-get.branch [
-      | in-Some+then-next-hop-route w ↦ rw (w.changed-is, w.fresh-is)
-          (counting_other t rs l.route-index l.changed l.fresh r.result l.invariant c.loop-route-test.true r.is w.in-Some.next-hop w.in-Some.ensures w.if-next-hop-route.true)
-      | in-Some+else-next-hop-route w ↦ rw (w.changed-is, w.fresh-is)
-          (counting_same t rs l.route-index l.changed l.fresh r.result l.invariant c.loop-route-test.true r.is w.in-Some.next-hop w.in-Some.ensures w.if-next-hop-route.false)
+      | in-Some+then-next_hop-route w ↦ rw (w.changed-is, w.fresh-is)
+          (counting_other t rs l.route-index l.changed l.fresh r.result l.invariant c.loop-route-test.true r.is w.in-Some.next_hop w.in-Some.ensures w.if-next_hop-route.true)
+      | in-Some+else-next_hop-route w ↦ rw (w.changed-is, w.fresh-is)
+          (counting_same t rs l.route-index l.changed l.fresh r.result l.invariant c.loop-route-test.true r.is w.in-Some.next_hop w.in-Some.ensures w.if-next_hop-route.false)
       | in-None w ↦ rw (w.changed-is, w.fresh-is)
           (counting_new t rs l.route-index l.changed l.fresh r.result l.invariant c.loop-route-test.true r.is w.in-None.ensures)
     ]

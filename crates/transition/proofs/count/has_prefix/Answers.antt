@@ -5,4 +5,4 @@ use Rattle.transition.proofs.Lines.{has_at}
 use Rattle.transition.proofs.count.has_prefix.Goals as goal
 
 pub returns : goal.returns
-returns c = c.is-some.ensures ∙ ap is_some c.get.ensures ∙ sym (has_at (bits c.args.prefix) (entries c.args.table.now))
+returns c = c.is_some.ensures ∙ ap is_some c.get.ensures ∙ sym (has_at (bits c.args.prefix) (entries c.args.table.now))

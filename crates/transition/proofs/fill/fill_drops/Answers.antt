@@ -7,7 +7,7 @@ use Rattle.transition.proofs.Held.{unknown}
 use Rattle.transition.proofs.Tiers.{from}
 use Rattle.transition.proofs.Filling.{filled_none, filled_all, remaining, inside_none, inside_all, inside_full, inside_skip, inside_room, inside_more, remaining_none, from_more, from_none, drops_are, drops_count}
 use Rattle.transition.proofs.fill.fill_drops.Goals as goal
-use Rattle.transition.proofs.fill.fill_drops.Goals.{then-len-via-then-len, then-len-via-else-len+then-has-prefix}
+use Rattle.transition.proofs.fill.fill_drops.Goals.{then-len-via-then-len, then-len-via-else-len+then-has_prefix}
 
 pub lengths-init : goal.lengths-init
 lengths-init c = filled_none (remaining dropping (unknown (entries c.args.new.now)) c.routes-routes.result.now (from 33 0)) c.args.out.now
@@ -24,34 +24,34 @@ routes-preserved-then-len c =
     let e = entry_of c.route-item.result in
     let why : (length e.prefix ≡ c.lengths.len → ⊥) ⊎ (unknown (entries c.args.new.now) e ≡ false) = elim c.then-len.branch [
       | then-len-via-then-len w ↦ inl (λ y. w.if-len.true (c.len.ensures ∙ y))
-      | then-len-via-else-len+then-has-prefix w ↦ inr (ap not (sym w.if-has-prefix.ensures))
+      | then-len-via-else-len+then-has_prefix w ↦ inr (ap not (sym w.if-has_prefix.ensures))
     ] in
     inside_skip c.lengths.invariant (from_more 33 c.lengths.len c.lengths-test.true) c.routes.invariant c.route-item.result c.routes-test.true c.route-item.is why
 
 -- one write more has its place
-room : (c : goal.After-out·1) → c.routes.n < length c.routes.out
+room : (c : goal.After-out-1) → c.routes.n < length c.routes.out
 room c =
     let p = c.requires.room in
     let q = c.requires.counted in
     let k = c.lengths.auto.out in
     let j = c.routes.auto.out in
     inside_room c.lengths.invariant (from_more 33 c.lengths.len c.lengths-test.true) c.routes.invariant (DropPrefix c.route-item.result.prefix) c.route-item.result c.routes-test.true c.route-item.is
-    (sym c.len.ensures ∙ c.if-len.false) (ap not (sym c.if-has-prefix.ensures)) refl
+    (sym c.len.ensures ∙ c.if-len.false) (ap not (sym c.if-has_prefix.ensures)) refl
     (omega (arith, drops_count c.args.old.now c.args.new.now c.routes-routes.result.now c.routes-routes.ensures))
 
-pub offset-bounds-out-n : goal.offset-bounds-out-n
-offset-bounds-out-n c = let l = room c in search rules
+pub offset_bounds-out-n : goal.offset_bounds-out-n
+offset_bounds-out-n c = let l = room c in search rules
 
 pub bounds-out-n : goal.bounds-out-n
 bounds-out-n c = room c
 
-pub overflow-add-n : goal.overflow-add-n
-overflow-add-n c = let l = room c in search rules
+pub overflow_add-n : goal.overflow_add-n
+overflow_add-n c = let l = room c in search rules
 
 pub routes-preserved : goal.routes-preserved
 routes-preserved c =
     inside_more c.lengths.invariant (from_more 33 c.lengths.len c.lengths-test.true) c.routes.invariant (DropPrefix c.route-item.result.prefix) c.route-item.result c.routes-test.true c.route-item.is
-    (sym c.len.ensures ∙ c.if-len.false) (ap not (sym c.if-has-prefix.ensures)) refl (room c)
+    (sym c.len.ensures ∙ c.if-len.false) (ap not (sym c.if-has_prefix.ensures)) refl (room c)
 
 pub returns-after-lengths : goal.returns-after-lengths
 returns-after-lengths c =

@@ -7,7 +7,7 @@ use Rattle.transition.proofs.Held.{unheld}
 use Rattle.transition.proofs.Tiers.{below}
 use Rattle.transition.proofs.Filling.{filled_none, filled_all, remaining, inside_none, inside_all, inside_full, inside_skip, inside_room, inside_more, remaining_none, below_more, below_none, puts_are, puts_count}
 use Rattle.transition.proofs.fill.fill_puts.Goals as goal
-use Rattle.transition.proofs.fill.fill_puts.Goals.{then-len-via-then-len, then-len-via-else-len+then-has-route}
+use Rattle.transition.proofs.fill.fill_puts.Goals.{then-len-via-then-len, then-len-via-else-len+then-has_route}
 
 pub lengths-init : goal.lengths-init
 lengths-init c = filled_none (remaining Put (unheld (entries c.args.old.now)) c.routes-routes.result.now (below 33)) c.args.out.now
@@ -24,34 +24,34 @@ routes-preserved-then-len c =
     let e = entry_of c.route-item.result in
     let why : (length e.prefix ≡ (c.lengths.len - 1) → ⊥) ⊎ (unheld (entries c.args.old.now) e ≡ false) = elim c.then-len.branch [
       | then-len-via-then-len w ↦ inl (λ y. w.if-len.true (c.len.ensures ∙ y))
-      | then-len-via-else-len+then-has-route w ↦ inr (ap not (sym w.if-has-route.ensures))
+      | then-len-via-else-len+then-has_route w ↦ inr (ap not (sym w.if-has_route.ensures))
     ] in
     inside_skip c.lengths.invariant (below_more c.lengths.len c.lengths-test.true) c.routes.invariant c.route-item.result c.routes-test.true c.route-item.is why
 
 -- one write more has its place
-room : (c : goal.After-out·1) → c.routes.n < length c.routes.out
+room : (c : goal.After-out-1) → c.routes.n < length c.routes.out
 room c =
     let p = c.requires.room in
     let q = c.requires.counted in
     let k = c.lengths.auto.out in
     let j = c.routes.auto.out in
     inside_room c.lengths.invariant (below_more c.lengths.len c.lengths-test.true) c.routes.invariant (PutRoute c.route-item.result) c.route-item.result c.routes-test.true c.route-item.is
-    (sym c.len.ensures ∙ c.if-len.false) (ap not (sym c.if-has-route.ensures)) refl
+    (sym c.len.ensures ∙ c.if-len.false) (ap not (sym c.if-has_route.ensures)) refl
     (omega (arith, puts_count c.args.old.now c.args.new.now c.routes-routes.result.now c.routes-routes.ensures))
 
-pub offset-bounds-out-n : goal.offset-bounds-out-n
-offset-bounds-out-n c = let l = room c in search rules
+pub offset_bounds-out-n : goal.offset_bounds-out-n
+offset_bounds-out-n c = let l = room c in search rules
 
 pub bounds-out-n : goal.bounds-out-n
 bounds-out-n c = room c
 
-pub overflow-add-n : goal.overflow-add-n
-overflow-add-n c = let l = room c in search rules
+pub overflow_add-n : goal.overflow_add-n
+overflow_add-n c = let l = room c in search rules
 
 pub routes-preserved : goal.routes-preserved
 routes-preserved c =
     inside_more c.lengths.invariant (below_more c.lengths.len c.lengths-test.true) c.routes.invariant (PutRoute c.route-item.result) c.route-item.result c.routes-test.true c.route-item.is
-    (sym c.len.ensures ∙ c.if-len.false) (ap not (sym c.if-has-route.ensures)) refl (room c)
+    (sym c.len.ensures ∙ c.if-len.false) (ap not (sym c.if-has_route.ensures)) refl (room c)
 
 pub returns-after-lengths : goal.returns-after-lengths
 returns-after-lengths c =

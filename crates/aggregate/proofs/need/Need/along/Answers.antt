@@ -1,6 +1,5 @@
-use Rattle.std.proofs.Common.{◌≡◌, Bool, true, false, ◌||◌, eqb, sym, ◌∙◌, ap₂, ⊎_elim}
+use Rattle.std.proofs.Common.{◌≡◌, true, false, ◌||◌, eqb, sym, ◌∙◌, ap₂, ⊎_elim}
 use Rattle.std.proofs.lemmas.Bool.{or_left, or_right, eq-eqb}
-use Rattle.fewest.specs.declared.along.Along.{Along}
 use Rattle.fewest.specs.declared.along.Along.TheVariants.{Nothing, Top, Sides}
 use Rattle.fewest.specs.Edges.{along, aside}
 use Rattle.aggregate.specs.Model.{among}
@@ -14,16 +13,16 @@ returns-then-bits-eq0 c =
     let value : Nothing ≡ along c.args.bits c.args.hop (among c.args.self.now) c.args.given = along_nothing c.args.bits c.args.hop c.args.given (among c.args.self.now) none in
     record { value = value; lines = along_lines c.args.self.now _ _ _ Nothing value }
 
-pub returns-then-stand-aside : goal.returns-then-stand-aside
-returns-then-stand-aside c =
+pub returns-then-stand_aside : goal.returns-then-stand_aside
+returns-then-stand_aside c =
     let value : Sides ≡ along c.args.bits c.args.hop (among c.args.self.now) c.args.given =
     along_written c.args.bits c.args.hop c.args.given (among c.args.self.now) true c.if-bits-eq0.false c.if-given-hop.false
-    (sym (c.if-stand-aside.ensures ∙ ap₂ (aside c.args.bits) c.reaches.ensures c.reaches-2.ensures)) in
+    (sym (c.if-stand_aside.ensures ∙ ap₂ (aside c.args.bits) c.reaches.ensures c.reaches-2.ensures)) in
     record { value = value; lines = along_lines c.args.self.now _ _ _ Sides value }
 
-pub returns-else-stand-aside : goal.returns-else-stand-aside
-returns-else-stand-aside c =
+pub returns-else-stand_aside : goal.returns-else-stand_aside
+returns-else-stand_aside c =
     let value : Top ≡ along c.args.bits c.args.hop (among c.args.self.now) c.args.given =
     along_written c.args.bits c.args.hop c.args.given (among c.args.self.now) false c.if-bits-eq0.false c.if-given-hop.false
-    (sym (c.if-stand-aside.ensures ∙ ap₂ (aside c.args.bits) c.reaches.ensures c.reaches-2.ensures)) in
+    (sym (c.if-stand_aside.ensures ∙ ap₂ (aside c.args.bits) c.reaches.ensures c.reaches-2.ensures)) in
     record { value = value; lines = along_lines c.args.self.now _ _ _ Top value }
