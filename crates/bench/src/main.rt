@@ -1,5 +1,7 @@
 // Look-ups in a table as large as a wanted table may be, and plans between tables as large as a device's may be: how many of the
 // addresses found a route, how many writes the plans have, and check sums over both. With the argument --time it also says how long they took.
+#![tactic(auto)]
+
 use prefix::Prefix;
 use std::alloc::Global;
 use std::env;

@@ -1,5 +1,7 @@
 // The fewest lines for a table as large as a wanted table may be: how many lines are needed, how many are written, and a check sum over the choices.
 // With the argument --time it also says how long they took.
+#![tactic(auto)]
+
 use aggregate::{Need, choose};
 use fewest::Choice;
 use std::alloc::Global;

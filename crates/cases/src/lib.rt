@@ -1,3 +1,5 @@
+#![tactic(auto)]
+
 // Worked cases as theorems, and tests of the libraries on examples.
 #[cfg(test)]
 mod needs;

@@ -1,4 +1,6 @@
 // Takes a device from nothing to an example table and on to others; prints the writes of each plan, one a line, and then how many lines the device has.
+#![tactic(auto)]
+
 use prefix::Prefix;
 use table::{Route, Table};
 use transition::{Write, plan_into, plan_len};

@@ -1,9 +1,12 @@
 // Looks addresses up in a small example table, and prints where each goes, one a line.
+#![tactic(auto)]
+
 use anyhow::anyhow;
 use prefix::Prefix;
 use std::alloc::Global;
 use std::env;
 use std::io::{BufWriter, Write};
+use std::process::ExitCode;
 use table::{Route, Table};
 
 // network address, length, next hop
@@ -57,14 +60,15 @@ fn address(text: &str) -> Option<u32> {
     }
 }
 
-fn run(rt: &HostRuntime) -> anyhow::Result<()> {
+// What is said of wrong arguments is said once, here; only a failed read or write is main's to say.
+fn run(rt: &HostRuntime) -> anyhow::Result<ExitCode> {
     let table = example(rt.alloc())?;
     let mut out = BufWriter::new(rt.alloc(), rt.stdout())?;
     let mut given = false;
     for text in env::args(rt)?.skip(1) {
         let Some(address) = address(text.as_str()) else {
             eprintln!(rt; "look: not an address: {text}")?;
-            return Err(anyhow!("not an address"));
+            return Ok(ExitCode::FAILURE);
         };
         let next_hop = table.next_hop(address);
         writeln!(out, "{next_hop}")?;
@@ -75,11 +79,11 @@ fn run(rt: &HostRuntime) -> anyhow::Result<()> {
         eprintln!(rt;
             "usage: look ADDRESS.. (as 10.1.2.3; prints the next hop of each in the example table, 0 where it is dropped)"
         )?;
-        return Err(anyhow!("no address"));
+        return Ok(ExitCode::FAILURE);
     }
-    Ok(())
+    Ok(ExitCode::SUCCESS)
 }
 
-fn main(rt: HostRuntime) -> anyhow::Result<()> {
+fn main(rt: HostRuntime) -> anyhow::Result<ExitCode> {
     run(&rt)
 }
