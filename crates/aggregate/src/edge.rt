@@ -1,6 +1,6 @@
 ghost use Rattle.std.specs.Prelude.{◌≡◌, ◌-◌, length, take, drop};
 ghost use Rattle.prefix.specs.Bits.{Bits};
-ghost use Rattle.prefix.specs.Model.{bits as bits_of};
+ghost use Rattle.prefix.specs.Model.{bits as prefix_bits};
 ghost use Rattle.fewest.specs.Trees.{Tree};
 ghost use Rattle.fewest.specs.Prescribed.{beneath, prescribed};
 ghost use Rattle.fewest.specs.Edges.{along, aside, edge, sides_after, sides_before};
@@ -65,8 +65,8 @@ struct Sibling {
 
 // The route to a next hop on the other side of the bit at a place; none past the end of the prefix.
 fn other_side(node: Prefix, place: u8, hop: NextHop) -> Sibling
-    ensures earlier { line_of result.before ≡ beneath (take place (bits_of node)) (sides_before hop (take 1 (drop place (bits_of node)))) }
-    ensures later { line_of result.after ≡ beneath (take place (bits_of node)) (sides_after hop (take 1 (drop place (bits_of node)))) }
+    ensures earlier { line_of result.before ≡ beneath (take place (prefix_bits node)) (sides_before hop (take 1 (drop place (prefix_bits node)))) }
+    ensures later { line_of result.after ≡ beneath (take place (prefix_bits node)) (sides_after hop (take 1 (drop place (prefix_bits node)))) }
 {
     let Some(bit) = node.bit(place) else {
         return Sibling {
@@ -100,8 +100,8 @@ fn other_side(node: Prefix, place: u8, hop: NextHop) -> Sibling
 // The routes along the edge that ends at a node and begins after so many of its bits, on whose other sides all addresses go to one next hop,
 // for one who comes to its upper end with a given next hop, where the node needs so many lines. There are never more than two.
 pub fn edge_routes(node: Prefix, from: u8, hop: NextHop, need: &Need, given: NextHop) -> EdgeRoutes
-    ensures value { Brought (bits_of node) from hop given (along (length (bits_of node) - from) hop (among need.now) given) result }
-    ensures lines { (t : Tree) → Keeps need.now t → Surrounds (bits_of node) from hop given result t }
+    ensures value { Brought (prefix_bits node) from hop given (along (length (prefix_bits node) - from) hop (among need.now) given) result }
+    ensures lines { (t : Tree) → Keeps need.now t → Surrounds (prefix_bits node) from hop given result t }
 {
     match need.along(node.len().saturating_sub(from), hop, given) {
         Along::Nothing => EdgeRoutes {

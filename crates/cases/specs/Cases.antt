@@ -1,6 +1,6 @@
 -- The worked cases, at few bits: the rows of one table. Assumes nothing.
 use Rattle.std.specs.Prelude.{◌≡◌, ℕ, suc, true, false, List, [], ◌∷◌, length}
-use Rattle.std.specs.List.{AllByRecursion as All}
+use Rattle.std.specs.List.{AllByRecursion}
 use Rattle.prefix.specs.Bits.{Bits}
 use Rattle.table.specs.Examples.{line}
 use Rattle.table.specs.Tables.{Entries, sends}
@@ -32,7 +32,7 @@ pub data Case : Type 0 where
 
 -- what a case says
 abbrev pub Holds : Case → Type 0
-Holds (Over old new us cs) = (plan old new ≡ us) × (written_all us old ≡ new) × All (Takes us old) cs
+Holds (Over old new us cs) = (plan old new ≡ us) × (written_all us old ≡ new) × AllByRecursion (Takes us old) cs
 
 -- the cases
 abbrev pub rows : List Case
@@ -52,4 +52,4 @@ rows =
 
 -- every row holds
 abbrev pub AllHold : Type 0
-AllHold = All Holds rows
+AllHold = AllByRecursion Holds rows

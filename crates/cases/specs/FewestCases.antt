@@ -1,6 +1,6 @@
 -- The worked cases of the fewest lines, at few bits: the rows of one table. Assumes nothing.
 use Rattle.std.specs.Prelude.{◌≡◌, ℕ, true, false, List, [], ◌∷◌, length}
-use Rattle.std.specs.List.{AllByRecursion as All}
+use Rattle.std.specs.List.{AllByRecursion}
 use Rattle.table.specs.Tables.{Entries}
 use Rattle.table.specs.Examples.{line}
 use Rattle.fewest.specs.Needs.{fewest}
@@ -43,4 +43,4 @@ fewest_rows =
 
 -- every row holds
 abbrev pub AllShorten : Type 0
-AllShorten = All Shortens fewest_rows
+AllShorten = AllByRecursion Shortens fewest_rows

@@ -1,6 +1,6 @@
 -- How far the lines reach with which an address begins, in lists where the longest or the shortest come first. Assumes nothing.
 use Rattle.std.proofs.Common.{◌≡◌, ℕ, zero, suc, ◌<◌, ◌≤◌, max, Bool, true, false, cond, ◌⊎◌, [], ◌∷◌, ◌++◌, length, take, drop, sym, refl, ap, ◌∙◌, inl, inr, arith}
-use Rattle.std.specs.List.{AllByRecursion as All}
+use Rattle.std.specs.List.{AllByRecursion}
 use Rattle.std.proofs.ByRecursion.{All-weaker, All-drop}
 use Rattle.std.proofs.lemmas.List.{length-take-le, take-append-drop}
 use Rattle.std.proofs.lemmas.Bool.{cond_both, cases_Bool, cases_lt, or_from, or_parts}
@@ -72,13 +72,13 @@ farther_apart a z x n l b h f =
       | inr y ↦ y
     ]
 
-free_of : (a z : Bits) (n : ℕ) (xs : Entries) → n ≤ length a → begins z a ≡ true → n ≤ length z → All (λ x. Farther z x.prefix) xs → has (take n a) xs ≡ false
+free_of : (a z : Bits) (n : ℕ) (xs : Entries) → n ≤ length a → begins z a ≡ true → n ≤ length z → AllByRecursion (λ x. Farther z x.prefix) xs → has (take n a) xs ≡ false
 unfolding has
 free_of a z n [] l b h f = refl
 free_of a z n (x ∷ xs) l b h f = or_from _ _ (farther_apart a z x.prefix n l b h f.0) (free_of a z n xs l b h f.1)
 
 -- within the reach of some lines the address has none of those that are farther than all of them
-pub within_reach : (a : Bits) (n : ℕ) (zs xs : Entries) → n ≤ length a → All (λ z. All (λ x. Farther z.prefix x.prefix) xs) zs → n < reach a zs → has (take n a) xs ≡ false
+pub within_reach : (a : Bits) (n : ℕ) (zs xs : Entries) → n ≤ length a → AllByRecursion (λ z. AllByRecursion (λ x. Farther z.prefix x.prefix) xs) zs → n < reach a zs → has (take n a) xs ≡ false
 unfolding reach
 within_reach a n [] xs l f h = absurd (omega arith)
 within_reach a n (z ∷ zs) xs l f h =
@@ -93,25 +93,25 @@ within_reach a n (z ∷ zs) xs l f h =
 -- of every two lines, the earlier first
 unfoldable pub Pairs : (Entry → Entry → Type 0) → Entries → Type 0
 Pairs R [] = Unit {0}
-Pairs R (e ∷ es) = All (R e) es × Pairs R es
+Pairs R (e ∷ es) = AllByRecursion (R e) es × Pairs R es
 
 module _ (R : Entry → Entry → Type 0) where
   -- a list in two parts
-  pub pairs_split : (k : ℕ) (es : Entries) → Pairs R es → All (λ x. All (R x) (drop k es)) (take k es)
+  pub pairs_split : (k : ℕ) (es : Entries) → Pairs R es → AllByRecursion (λ x. AllByRecursion (R x) (drop k es)) (take k es)
   unfolding Pairs
   pairs_split zero es h = tt
   pairs_split (suc k) [] h = tt
   pairs_split (suc k) (e ∷ es) h = (All-drop (R e) k es h.0, pairs_split k es h.1)
 
-  all_none : (xs : Entries) → All (λ x. All (R x) []) xs
+  all_none : (xs : Entries) → AllByRecursion (λ x. AllByRecursion (R x) []) xs
   all_none [] = tt
   all_none (x ∷ xs) = (tt, all_none xs)
 
-  all_heads : (y : Entry) (ys xs : Entries) → All (λ x. All (R x) (y ∷ ys)) xs → All (λ x. R x y) xs × All (λ x. All (R x) ys) xs
+  all_heads : (y : Entry) (ys xs : Entries) → AllByRecursion (λ x. AllByRecursion (R x) (y ∷ ys)) xs → AllByRecursion (λ x. R x y) xs × AllByRecursion (λ x. AllByRecursion (R x) ys) xs
   all_heads y ys [] h = (tt, tt)
   all_heads y ys (x ∷ xs) h = let i = all_heads y ys xs h.1 in ((h.0.0, i.0), (h.0.1, i.1))
 
-  pub all_turned : (xs ys : Entries) → All (λ x. All (R x) ys) xs → All (λ y. All (λ x. R x y) xs) ys
+  pub all_turned : (xs ys : Entries) → AllByRecursion (λ x. AllByRecursion (R x) ys) xs → AllByRecursion (λ y. AllByRecursion (λ x. R x y) xs) ys
   all_turned xs [] h = tt
   all_turned xs (y ∷ ys) h = let i = all_heads y ys xs h in (i.0, all_turned xs ys i.1)
 
@@ -127,11 +127,11 @@ module _ (f : Bits → Bits → Bool)
   abbrev Before : Entry → Entry → Type 0
   Before e k = f e.prefix k.prefix ≡ true
 
-  all_inserted : (P : Entry → Type 0) (e : Entry) (t : Entries) → P e → All P t → All P (insert_by f e t)
+  all_inserted : (P : Entry → Type 0) (e : Entry) (t : Entries) → P e → AllByRecursion P t → AllByRecursion P (insert_by f e t)
   unfolding insert_by
   all_inserted P e [] p h = (p, tt)
   all_inserted P e (k ∷ ks) p h =
-      cond_both (f e.prefix k.prefix) (e ∷ k ∷ ks) (k ∷ insert_by f e ks) (All P)
+      cond_both (f e.prefix k.prefix) (e ∷ k ∷ ks) (k ∷ insert_by f e ks) (AllByRecursion P)
       (λ _. (p, h)) (λ _. (h.0, all_inserted P e ks p h.1))
 
   inserted_pairs : (e : Entry) (t : Entries) → has e.prefix t ≡ false → Pairs Before t → Pairs Before (insert_by f e t)

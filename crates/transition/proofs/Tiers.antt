@@ -1,6 +1,6 @@
 -- Lines of a table in order, gone through length by length, come sorted by length and then by bits. Assumes nothing.
 use Rattle.std.proofs.Common.{◌≡◌, ℕ, zero, suc, ◌+◌, ◌<◌, ◌≤◌, Bool, true, false, eqb, ltb, ◌⊎◌, List, [], ◌∷◌, ◌++◌, length, filter, sym, refl, ap, ◌∙◌, inl, inr, arith}
-use Rattle.std.specs.List.{AllByRecursion as All}
+use Rattle.std.specs.List.{AllByRecursion}
 use Rattle.std.proofs.ByRecursion.{All-append, All-weaker}
 use Rattle.std.proofs.lemmas.Bool.{cases_eq, cond_both, both_ways, eq-eqb, ne_eqb, eqb-true}
 use Rattle.std.proofs.lemmas.Bool.Decides.{nat_tests}
@@ -35,25 +35,25 @@ Among n (m ∷ ms) = (n ≡ m) ⊎ Among n ms
 
 -- inserting
 
-insert_front : (f : Bits → Bits → Bool) (e : Entry) (t : Entries) → All (λ k. f e.prefix k.prefix ≡ true) t → insert_by f e t ≡ e ∷ t
+insert_front : (f : Bits → Bits → Bool) (e : Entry) (t : Entries) → AllByRecursion (λ k. f e.prefix k.prefix ≡ true) t → insert_by f e t ≡ e ∷ t
 unfolding insert_by
 insert_front f e [] h = refl
 insert_front f e (k ∷ ks) h = rw h.0
 
-insert_past : (f : Bits → Bits → Bool) (e : Entry) (s t : Entries) → All (λ k. f e.prefix k.prefix ≡ false) s → insert_by f e (s ++ t) ≡ s ++ insert_by f e t
+insert_past : (f : Bits → Bits → Bool) (e : Entry) (s t : Entries) → AllByRecursion (λ k. f e.prefix k.prefix ≡ false) s → insert_by f e (s ++ t) ≡ s ++ insert_by f e t
 unfolding insert_by
 insert_past f e [] t h = refl
 insert_past f e (k ∷ ks) t h = rw h.0 (ap (λ (x : Entries). k ∷ x) (insert_past f e ks t h.1))
 
 -- what is in a tier
 
-tier_all : (P Q : Entry → Type 0) (n : ℕ) (t : Entries) → ((e : Entry) → P e → length e.prefix ≡ n → Q e) → All P t → All Q (tier n t)
+tier_all : (P Q : Entry → Type 0) (n : ℕ) (t : Entries) → ((e : Entry) → P e → length e.prefix ≡ n → Q e) → AllByRecursion P t → AllByRecursion Q (tier n t)
 tier_all P Q n [] f h = tt
 tier_all P Q n (e ∷ es) f h =
-    cond_both (eqb (length e.prefix) n) (e ∷ tier n es) (tier n es) (All Q)
+    cond_both (eqb (length e.prefix) n) (e ∷ tier n es) (tier n es) (AllByRecursion Q)
     (λ y. (f e h.0 (eqb-true (length e.prefix) n y), tier_all P Q n es f h.1)) (λ _. tier_all P Q n es f h.1)
 
-tiers_all : (P Q : Entry → Type 0) (ns : List ℕ) (t : Entries) → All (λ n. (e : Entry) → P e → length e.prefix ≡ n → Q e) ns → All P t → All Q (tiers ns t)
+tiers_all : (P Q : Entry → Type 0) (ns : List ℕ) (t : Entries) → AllByRecursion (λ n. (e : Entry) → P e → length e.prefix ≡ n → Q e) ns → AllByRecursion P t → AllByRecursion Q (tiers ns t)
 unfolding tiers
 tiers_all P Q [] t f h = tt
 tiers_all P Q (n ∷ ns) t f h = All-append Q (tier n t) (tiers ns t) (tier_all P Q n t f.0 h) (tiers_all P Q ns t f.1 h)
@@ -64,7 +64,7 @@ tier_other n e t h = rw (ne_eqb (length e.prefix) n h)
 tier_here : (n : ℕ) (e : Entry) (t : Entries) → length e.prefix ≡ n → tier n (e ∷ t) ≡ e ∷ tier n t
 tier_here n e t h = rw (eq-eqb (length e.prefix) n h)
 
-tiers_other : (ns : List ℕ) (e : Entry) (t : Entries) → All (λ n. length e.prefix ≡ n → ⊥) ns → tiers ns (e ∷ t) ≡ tiers ns t
+tiers_other : (ns : List ℕ) (e : Entry) (t : Entries) → AllByRecursion (λ n. length e.prefix ≡ n → ⊥) ns → tiers ns (e ∷ t) ≡ tiers ns t
 unfolding tiers
 tiers_other [] e t h = refl
 tiers_other (n ∷ ns) e t h = rw (tier_other n e t h.0, tiers_other ns e t h.1)
@@ -78,18 +78,18 @@ module _ (first : ℕ → ℕ → Bool) (strict : Strict first) where
   -- lengths in their order
   unfoldable pub Ordered : List ℕ → Type 0
   Ordered [] = Unit {0}
-  Ordered (n ∷ ns) = All (λ m. first n m ≡ true) ns × Ordered ns
+  Ordered (n ∷ ns) = AllByRecursion (λ m. first n m ≡ true) ns × Ordered ns
 
   first_apart : (n m k : ℕ) → first n m ≡ true → k ≡ n → k ≡ m → ⊥
   first_apart n m k h a e = both_ways (first n n) (strict.irrefl n) (rw (sym e ∙ a) at h)
 
-  first_among : (n k : ℕ) (ns : List ℕ) → All (λ m. first n m ≡ true) ns → Among k ns → first n k ≡ true
+  first_among : (n k : ℕ) (ns : List ℕ) → AllByRecursion (λ m. first n m ≡ true) ns → Among k ns → first n k ≡ true
   unfolding Among
   first_among n k [] h a = absurd a
   first_among n k (m ∷ ms) h (inl e) = rw e h.0
   first_among n k (m ∷ ms) h (inr a) = first_among n k ms h.1 a
 
-  insert_tiers : (ns : List ℕ) (e : Entry) (t : Entries) → Ordered ns → Among (length e.prefix) ns → All (λ k. before e.prefix k.prefix ≡ true) t →
+  insert_tiers : (ns : List ℕ) (e : Entry) (t : Entries) → Ordered ns → Among (length e.prefix) ns → AllByRecursion (λ k. before e.prefix k.prefix ≡ true) t →
       insert_by (by_length first) e (tiers ns t) ≡ tiers ns (e ∷ t)
   unfolding tiers Ordered Among
   insert_tiers [] e t o a h = absurd a
@@ -117,11 +117,11 @@ module _ (first : ℕ → ℕ → Bool) (strict : Strict first) where
       deeper y (inl z) = absurd (y z)
       deeper y (inr z) = z
 
-  leads_all : (e : Entry) (t : Entries) → leads e t ≡ true → All (λ k. before e.prefix k.prefix ≡ true) t
+  leads_all : (e : Entry) (t : Entries) → leads e t ≡ true → AllByRecursion (λ k. before e.prefix k.prefix ≡ true) t
   leads_all e [] h = tt
   leads_all e (k ∷ ks) h = let s = leads_parts e k ks h in (s.0, leads_all e ks s.1)
 
-  pub tiers_sort : (ns : List ℕ) (t : Entries) → Ordered ns → All (λ e. Among (length e.prefix) ns) t → rising t ≡ true → sorted_by (by_length first) t ≡ tiers ns t
+  pub tiers_sort : (ns : List ℕ) (t : Entries) → Ordered ns → AllByRecursion (λ e. Among (length e.prefix) ns) t → rising t ≡ true → sorted_by (by_length first) t ≡ tiers ns t
   unfolding sorted_by
   tiers_sort ns [] o a r = sym (tiers_none ns)
   tiers_sort ns (e ∷ es) o a r =
@@ -130,7 +130,7 @@ module _ (first : ℕ → ℕ → Bool) (strict : Strict first) where
 
 -- the two orders of lengths
 
-below_less : (n m : ℕ) → n ≤ m → All (λ k. is_longer m k ≡ true) (below n)
+below_less : (n m : ℕ) → n ≤ m → AllByRecursion (λ k. is_longer m k ≡ true) (below n)
 unfolding below
 below_less zero m h = tt
 below_less (suc n) m h = (grind (arith, nat_tests), below_less n m (omega arith))
@@ -149,7 +149,7 @@ below_among (suc n) m h =
       | inr e ↦ inr (below_among n m (omega arith))
     ]
 
-from_more : (k n m : ℕ) → m < n → All (λ j. ltb m j ≡ true) (from k n)
+from_more : (k n m : ℕ) → m < n → AllByRecursion (λ j. ltb m j ≡ true) (from k n)
 unfolding from
 from_more zero n m h = tt
 from_more (suc k) n m h = (grind (arith, nat_tests), from_more k (suc n) m (omega arith))
@@ -170,7 +170,7 @@ from_among (suc k) n m h l =
 
 -- a table in order whose prefixes have fewer than w bits
 abbrev pub Below : ℕ → Entries → Type 0
-Below w t = All (λ e. length e.prefix < w) t
+Below w t = AllByRecursion (λ e. length e.prefix < w) t
 
 pub falls : (w : ℕ) (t : Entries) → Below w t → rising t ≡ true → sorted_by (by_length is_longer) t ≡ tiers (below w) t
 falls w t h r = tiers_sort is_longer longer_strict (below w) t (below_ordered w) (All-weaker (λ e. length e.prefix < w) (λ e. Among (length e.prefix) (below w)) (λ e l. below_among w (length e.prefix) l) t h) r

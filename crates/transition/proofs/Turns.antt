@@ -1,6 +1,6 @@
 -- The plan is as the rules say, and it is the only list of writes that is. Assumes nothing.
 use Rattle.std.proofs.Common.{◌≡◌, ℕ, Bool, true, false, not, ◌&&◌, ◌||◌, eqb, ltb, List, [], ◌∷◌, ◌++◌, map, is_some, Some, None, Option, sym, refl, ap, ◌∙◌, ap₂, inl, inr}
-use Rattle.std.specs.List.{AllByRecursion as All}
+use Rattle.std.specs.List.{AllByRecursion}
 use Rattle.std.proofs.lemmas.Bool.{cases_Bool, both_ways, and_from, eqb-true}
 use Rattle.prefix.specs.Bits.{Bits, same}
 use Rattle.prefix.proofs.Strings.{same_eq, same_refl}
@@ -71,12 +71,12 @@ unfolding heads
 heads_drops e [] = refl
 heads_drops e (f ∷ fs) = heads_drops e fs
 
-heads_puts : (e : Entry) (es fs : Entries) → All (λ f. longest_first e.prefix f.prefix ≡ true) es → heads (Put e) (map Put es ++ map dropping fs) ≡ true
+heads_puts : (e : Entry) (es fs : Entries) → AllByRecursion (λ f. longest_first e.prefix f.prefix ≡ true) es → heads (Put e) (map Put es ++ map dropping fs) ≡ true
 unfolding heads
 heads_puts e [] fs h = heads_drops e fs
 heads_puts e (x ∷ xs) fs h = and_from _ _ h.0 (heads_puts e xs fs h.1)
 
-heads_dropped : (e : Entry) (fs : Entries) → All (λ f. shortest_first e.prefix f.prefix ≡ true) fs → heads (dropping e) (map dropping fs) ≡ true
+heads_dropped : (e : Entry) (fs : Entries) → AllByRecursion (λ f. shortest_first e.prefix f.prefix ≡ true) fs → heads (dropping e) (map dropping fs) ≡ true
 unfolding heads
 heads_dropped e [] h = refl
 heads_dropped e (f ∷ fs) h = and_from _ _ h.0 (heads_dropped e fs h.1)

@@ -1,5 +1,5 @@
 -- The plan: the writes that take a device from an old table to a new one, in their order, for any width of addresses. Assumes nothing.
-use Rattle.std.specs.Prelude.{◌≡◌, ℕ, ◌+◌, Bool, true, false, cond, not, ◌&&◌, ◌||◌, ltb, List, [], ◌∷◌, ◌++◌, map, length, filter, ◌==◌, nat_lt}
+use Rattle.std.specs.Prelude.{◌≡◌, ℕ, ◌+◌, Bool, true, false, cond, not, ◌&&◌, ◌||◌, List, [], ◌∷◌, ◌++◌, map, length, filter, ◌==◌, nat_lt}
 use Rattle.prefix.specs.Bits.{Bits, same, before}
 use Rattle.table.specs.Limits.{device_limit}
 use Rattle.table.specs.Tables.{Entry, Entries, has, holds}
@@ -31,7 +31,7 @@ longest_first p q = by_length is_longer p q
 
 -- the shortest prefixes first
 abbrev pub shortest_first : Bits → Bits → Bool
-shortest_first p q = by_length ltb p q
+shortest_first p q = by_length nat_lt p q
 
 -- a line put before the first that it comes before, in an order of prefixes
 unfoldable pub insert_by : (Bits → Bits → Bool) → Entry → Entries → Entries
