@@ -7,7 +7,7 @@ use Rattle.transition.specs.Writes.{Writing, Put, Drop}
 
 -- THE LINES THAT DIFFER
 
--- the new lines that the old table does not have with the same next hop. (`kept_by` keeps those of a list that pass a test, in their order)
+-- the new lines that the old table does not have with the same next hop. (`filter` keeps those of a list that pass a test, in their order)
 abbrev pub changed : Entries → Entries → Entries
 changed old new = filter (λ e. not (holds e old)) new
 
