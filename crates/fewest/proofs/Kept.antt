@@ -80,7 +80,7 @@ pub fork_meets : (l r : Tree) → Says l (least l) (reaches l) → Says r (least
 fork_meets l r p q k e =
     let inside : (j : ℕ) → both l r j ≡ true → elem j (hops (Fork l r)) ≡ true =
     λ j i. fork_low l r j (p.inside j (and_parts (reaches l j) (reaches r j) i).0) in
-    let at-k : below l r k ≡ least l + least r = in_both (reaches l k) (reaches r k) (least l) (least r) (need l k) (need r k) (p.says k) (q.says k) e in
+    let at_k : below l r k ≡ least l + least r = in_both (reaches l k) (reaches r k) (least l) (least r) (need l k) (need r k) (p.says k) (q.says k) e in
     let low : lowest_below l r ≤ below l r k = lowest_at l r k (inside k e) in
     let high : least l + least r ≤ lowest_below l r =
     lowest_over_lem l r (least l + least r) (λ j _. omega (arith, above (least l) (need l j) (reaches l j) (p.says j), above (least r) (need r j) (reaches r j) (q.says j))) in
@@ -106,7 +106,7 @@ fork_apart l r p q none =
     let inside : (j : ℕ) → (reaches l j || reaches r j) ≡ true → elem j (hops (Fork l r)) ≡ true =
     λ j i. ⊎_elim (λ e. fork_low l r j (p.inside j e)) (λ e. fork_high l r j (q.inside j e)) (or_cases (reaches l j) (reaches r j) i) in
     let k : ℕ = p.one.0 in
-    let at-k : below l r k ≡ least l + least r + 1 =
+    let at_k : below l r k ≡ least l + least r + 1 =
     in_one (reaches l k) (reaches r k) (least l) (least r) (need l k) (need r k) (p.says k) (q.says k) p.one.1 (none k) in
     let here : (reaches l k || reaches r k) ≡ true = or_left (reaches l k) (reaches r k) p.one.1 in
     let low : lowest_below l r ≤ below l r k = lowest_at l r k (inside k here) in
