@@ -1,19 +1,19 @@
 ghost use Rattle.std.specs.Prelude.{◌≡◌, ◌-◌, ◌*◌, ◌/◌, ◌%◌, ◌^◌, ◌≤◌};
 
-// Without its lowest `n` bits; unlike `>>`, also where that is all of them.
+// Without its lowest `n` bits, of which there may be all 32.
 pub(crate) fn shr(word: u32, n: u8) -> u32
     requires { n ≤ 32 }
     ensures { result ≡ word / 2 ^ n }
 {
-    if n < 32 { word >> n } else { 0 }
+    word.unbounded_shr(u32::from(n))
 }
 
-// Without its highest `n` bits, and with `n` zeros after it; unlike `<<`, also where that is all of them.
+// Without its highest `n` bits, of which there may be all 32, and with `n` zeros after it.
 pub(crate) fn shl(word: u32, n: u8) -> u32
     requires { n ≤ 32 }
     ensures { result ≡ (word * 2 ^ n) % 2 ^ 32 }
 {
-    if n < 32 { word << n } else { 0 }
+    word.unbounded_shl(u32::from(n))
 }
 
 // Its first `n` bits, with zeros after them.
