@@ -4,4 +4,4 @@ use Rattle.prefix.proofs.Meaning.{before_fields, same_fields}
 use Rattle.prefix.proofs.cidr.Prefix.compare.Goals as goal
 
 pub returns : goal.returns
-returns c = rw (before_fields c.args.self c.args.other, same_fields c.args.self c.args.other, c.cmp.ensures) (grind (arith, nat_tests))
+returns c = rw (before_fields c.args.self c.args.other, same_fields c.args.self c.args.other) (grind (arith, nat_tests))
