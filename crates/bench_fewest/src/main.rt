@@ -108,8 +108,7 @@ fn run_fewest(rt: &HostRuntime, timed: bool) -> anyhow::Result<()> {
     let all = needs.first().and_then(|level| level.first());
     let needed = all.map_or(0, |need| need.lines(0));
     println!(rt;
-        "{WANTED_LIMIT} lines of 15 bits: {needed} needed, {lines} written, check sum {}",
-        sum.0
+        "{WANTED_LIMIT} lines of 15 bits: {needed} needed, {lines} written, check sum {sum}"
     )?;
     if timed {
         println!(rt; "{worked} us for the needs, {chosen} us for the lines")?;
