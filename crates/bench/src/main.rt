@@ -7,7 +7,7 @@ use std::alloc::Global;
 use std::env;
 use std::time::Instant;
 use table::{DEVICE_LIMIT, Route, Table, WANTED_LIMIT};
-use transition::{Write, plan_into};
+use transition::{Transition, Write};
 
 const LOOKUPS: u32 = 1_000_000;
 
@@ -96,10 +96,11 @@ fn go_over(
     timed: bool,
 ) -> anyhow::Result<()> {
     let mut writes = vec![in rt.alloc(); Write::Drop(Prefix::empty()); 2 * DEVICE_LIMIT]?;
+    let going = Transition { old, new };
     let start = Instant::now(rt)?;
     let mut made = Ok(0);
     for _ in 0..PLANS {
-        made = plan_into(old, new, writes.as_mut_slice());
+        made = going.plan_into(writes.as_mut_slice());
     }
     let spent = start.elapsed(rt)?.as_micros() / u128::from(PLANS);
     match made {
@@ -110,7 +111,7 @@ fn go_over(
             };
             println!(rt; "{name}: {count} writes, check sum {sum}")?;
         }
-        Err(refusal) => println!(rt; "{name}: refused {}", refusal.number())?,
+        Err(refusal) => println!(rt; "{name}: refused {}", u8::from(refusal))?,
     }
     if timed {
         println!(rt; "{spent} us a plan")?;

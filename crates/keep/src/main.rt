@@ -3,7 +3,7 @@
 
 use prefix::Prefix;
 use table::{Route, Table};
-use transition::{Write, plan_into, plan_len};
+use transition::{Transition, Write};
 
 // network address, length, next hop
 type Line = (u32, u8, u8);
@@ -54,16 +54,17 @@ fn show(rt: &HostRuntime, write: Write) -> anyhow::Result<()> {
 
 // Takes the device over to a table, write by write; where that is refused, prints by which number, and the device stays as it is.
 fn go_over(rt: &HostRuntime, device: &mut Table, new: &Table) -> anyhow::Result<()> {
-    let count = match plan_len(device, new) {
+    let going = Transition { old: device, new };
+    let count = match going.plan_len() {
         Ok(count) => count,
         Err(refusal) => {
-            println!(rt; "refused {}", refusal.number())?;
+            println!(rt; "refused {}", u8::from(refusal))?;
             return Ok(());
         }
     };
     let mut writes = vec![in rt.alloc(); Write::Drop(Prefix::empty()); count]?;
-    if let Err(refusal) = plan_into(device, new, writes.as_mut_slice()) {
-        println!(rt; "refused {}", refusal.number())?;
+    if let Err(refusal) = going.plan_into(writes.as_mut_slice()) {
+        println!(rt; "refused {}", u8::from(refusal))?;
         return Ok(());
     }
     // memory first: then no write is refused half-way
