@@ -1,7 +1,8 @@
 -- Filling the front of a slice with the writes of a plan, length by length. Assumes nothing.
-use Rattle.std.proofs.Common.{◌≡◌, ℕ, zero, suc, ◌+◌, ◌-◌, ◌<◌, ◌≤◌, Bool, true, false, ◌&&◌, eqb, leb, ◌⊎◌, List, [], ◌∷◌, ◌++◌, map, length, get_or, take, drop, set, filter, sym, refl, ap, ◌∙◌, subst, inl, inr, append_assoc, append-nil, arith, length-append, length-set, drop-drop, drop-set-lt}
+use Rattle.std.proofs.Common.{◌≡◌, ℕ, suc, ◌+◌, ◌-◌, ◌<◌, ◌≤◌, Bool, true, false, ◌&&◌, eqb, leb, ◌⊎◌, List, [], ◌∷◌, ◌++◌, map, length, get_or, take, drop, set, filter, sym, refl, ap, ◌∙◌, inl, inr, append_assoc, append-nil, arith, length-append, length-set}
+use Rattle.std.specs.List.{AllByRecursion}
 use Rattle.std.proofs.ByRecursion.{all_kept_by}
-use Rattle.std.proofs.lemmas.List.{at_drop_more, at_drop_all, take_more_set, length-map, length-take-le, map_push, nil_from_length}
+use Rattle.std.proofs.lemmas.List.{at_drop_more, at_drop_all, take_all, take_more_set, length-map, length-take-le, map_push, nil_from_length}
 use Rattle.std.proofs.lemmas.Bool.{cond_both, cond-false, eq-eqb, ne_eqb, and_parts, leb-true}
 use Rattle.table.specs.declared.table.Table.{Table}
 use Rattle.table.specs.declared.route.Route.{Route}
@@ -12,76 +13,47 @@ use Rattle.table.proofs.Picks.{every_parts, every_from}
 use Rattle.table.proofs.Rising.{rising_parts, rising_from}
 use Rattle.table.proofs.Held.{all_sound}
 use Rattle.transition.specs.declared.write.Write.{Write}
-use Rattle.transition.specs.Writes.{Writing, Put}
-use Rattle.transition.specs.Plans.{changed, fresh, longest_first, shortest_first, sorted_by, dropping, puts, drops}
+use Rattle.transition.specs.Writes.{Writing}
+use Rattle.transition.specs.Passes.{GoesThrough}
+use Rattle.transition.specs.Plans.{by_length, sorted_by}
 use Rattle.transition.specs.Model.{writing_of, writings_of}
 use Rattle.transition.proofs.Lines.{length_sorted}
-use Rattle.transition.proofs.Held.{unheld, unknown}
-use Rattle.transition.proofs.Tiers.{tier, tiers, below, from, Below, falls, rises}
+use Rattle.transition.proofs.Tiers.{tier, tiers, turns, sorted_turns}
 
 -- A SLICE THAT IS FILLED
 
--- the first n of `out` are written, `rest` is left to write, and behind them all is as it was
-pub record Filled (total : List Writing) (was out : List Write) (n : ℕ) (rest : List Writing) : Type 0 where
+-- the first n of `out` are written, and `rest` is left to write
+pub record Filled (total : List Writing) (out : List Write) (n : ℕ) (rest : List Writing) : Type 0 where
   pub front : writings_of (take n out) ++ rest ≡ total
-  pub back : drop n out ≡ drop n was
   pub within : n ≤ length out
 
--- all is written, in the first so many places
-pub record Done (total : List Writing) (was out : List Write) (count : ℕ) : Type 0 where
-  pub written : writings_of (take count out) ≡ total
-  pub left : drop count out ≡ drop count was
+pub filled_none : (total : List Writing) (out : List Write) → Filled total out 0 total
+filled_none total out = record { front = refl; within = omega arith }
 
-pub filled_none : (total : List Writing) (was : List Write) → Filled total was was 0 total
-filled_none total was = record { front = refl; back = refl; within = omega arith }
-
-filled_length : (total : List Writing) (was out : List Write) (n : ℕ) (rest : List Writing) → Filled total was out n rest → n + length rest ≡ length total
-filled_length total was out n rest f =
+filled_length : (total : List Writing) (out : List Write) (n : ℕ) (rest : List Writing) → Filled total out n rest → n + length rest ≡ length total
+filled_length total out n rest f =
     let a = length-append (writings_of (take n out)) rest in
     let b = length-map (take n out) writing_of in
     let c = length-take-le n out f.within in
     let d = ap length f.front in
     omega arith
 
-pub filled_room : (total : List Writing) (was out : List Write) (n : ℕ) (u : Writing) (rest : List Writing) → Filled total was out n (u ∷ rest) → length total ≤ length out → n < length out
-filled_room total was out n u rest f h = omega (arith, filled_length total was out n (u ∷ rest) f)
+pub filled_room : (total : List Writing) (out : List Write) (n : ℕ) (u : Writing) (rest : List Writing) → Filled total out n (u ∷ rest) → length total ≤ length out → n < length out
+filled_room total out n u rest f h = omega (arith, filled_length total out n (u ∷ rest) f)
 
-pub filled_more : (total : List Writing) (was out : List Write) (n : ℕ) (w : Write) (rest : List Writing) → Filled total was out n (writing_of w ∷ rest) → n < length out →
-    Filled total was (set out n w) (n + 1) rest
-filled_more total was out n w rest f h = record {
+pub filled_more : (total : List Writing) (out : List Write) (n : ℕ) (w : Write) (rest : List Writing) → Filled total out n (writing_of w ∷ rest) → n < length out →
+    Filled total (set out n w) (n + 1) rest
+filled_more total out n w rest f h = record {
   front = ap (λ (us : List Writing). us ++ rest) (ap writings_of (take_more_set out n w h) ∙ map_push writing_of (take n out) w) ∙ append_assoc (writings_of (take n out)) (writing_of w ∷ []) rest ∙ f.front;
-  back = drop-set-lt (n + 1) out n w (omega arith) ∙ sym (drop-drop 1 n out) ∙ ap (drop 1) f.back ∙ drop-drop 1 n was;
   within = rw length-set (omega arith);
 }
 
--- where as many are written as there are
-pub filled_full : (total : List Writing) (was out : List Write) (n count : ℕ) (rest : List Writing) → Filled total was out n rest → n ≡ count → count ≡ length total → Done total was out count
-filled_full total was out n count rest f e h =
-    let l = filled_length total was out n rest f in
+-- where as many are written as there are places and writes, all is written
+filled_full : (total : List Writing) (out : List Write) (n : ℕ) (rest : List Writing) → Filled total out n rest → n ≡ length out → length out ≡ length total → writings_of out ≡ total
+filled_full total out n rest f e h =
+    let l = filled_length total out n rest f in
     let z : rest ≡ [] = nil_from_length rest (omega arith) in
-    let w : writings_of (take n out) ≡ total = sym (append-nil (writings_of (take n out))) ∙ ap (λ (us : List Writing). writings_of (take n out) ++ us) (sym z) ∙ f.front in
-    record { written = rw e at w; left = rw e at f.back }
-
--- where none is left
-pub filled_all : (total : List Writing) (was out : List Write) (n count : ℕ) (rest : List Writing) → Filled total was out n rest → rest ≡ [] → count ≡ length total → Done total was out count
-filled_all total was out n count rest f z h =
-    let l = filled_length total was out n rest f in
-    let e = ap length z in
-    filled_full total was out n count rest f (omega arith) h
-
-drop_same : (x y : List Write) (m n : ℕ) → m ≤ n → drop m x ≡ drop m y → drop n x ≡ drop n y
-drop_same x y m n h e =
-    let z : m + (n - m) ≡ n = omega arith in
-    rw (← z) (sym (drop-drop (n - m) m x) ∙ ap (drop (n - m)) e ∙ drop-drop (n - m) m y)
-
--- a part of the filling after another
-filled_on : (total : List Writing) (was mid out : List Write) (m n : ℕ) (more rest : List Writing) →
-    Filled total was mid m more → Filled (writings_of (take m mid) ++ more) mid out n rest → m ≤ n → Filled total was out n rest
-filled_on total was mid out m n more rest f g h = record {
-  front = g.front ∙ f.front;
-  back = g.back ∙ drop_same mid was m n h f.back;
-  within = g.within;
-}
+    ap writings_of (sym (take_all n out (omega arith))) ∙ sym (append-nil (writings_of (take n out))) ∙ rw z at f.front
 
 -- ROUTES GONE THROUGH LENGTH BY LENGTH
 
@@ -94,11 +66,7 @@ module _ (make : Entry → Writing) (test : Entry → Bool) (rs : List Route) wh
   abbrev pub partial : ℕ → List ℕ → ℕ → List Writing
   partial n ns i = map make (tier n (filter test (map entry_of (drop i rs))) ++ tiers ns (filter test (map entry_of rs)))
 
-  remaining_first : (n : ℕ) (ns : List ℕ) → remaining (n ∷ ns) ≡ partial n ns 0
-  unfolding tiers
-  remaining_first n ns = refl
-
-  partial_all : (n : ℕ) (ns : List ℕ) (i : ℕ) → length rs ≤ i → partial n ns i ≡ remaining ns
+  pub partial_all : (n : ℕ) (ns : List ℕ) (i : ℕ) → length rs ≤ i → partial n ns i ≡ remaining ns
   partial_all n ns i h = at_drop_all (λ (xs : List Route). map make (tier n (filter test (map entry_of xs)) ++ tiers ns (filter test (map entry_of rs)))) rs i h
 
   skip_one : (n : ℕ) (e : Entry) (es : Entries) → (length e.prefix ≡ n → ⊥) ⊎ (test e ≡ false) → tier n (filter test (e ∷ es)) ≡ tier n (filter test es)
@@ -122,80 +90,29 @@ module _ (make : Entry → Writing) (test : Entry → Bool) (rs : List Route) wh
     pub partial_take : length (entry_of r).prefix ≡ n → test (entry_of r) ≡ true → partial n ns i ≡ make (entry_of r) ∷ partial n ns (i + 1)
     partial_take e s = at_route ∙ ap (λ (es : Entries). map make (es ++ tiers ns (filter test (map entry_of rs)))) (take_one n (entry_of r) (map entry_of (drop (i + 1) rs)) e s)
 
-  -- within a length: since the loop over it began, with m of `mid` written
-  pub record Inside (mid : List Write) (m n : ℕ) (ns : List ℕ) (out : List Write) (k i : ℕ) : Type 0 where
-    pub onward : m ≤ k
-    pub filled : Filled (writings_of (take m mid) ++ partial n ns 0) mid out k (partial n ns i)
+-- BY TURNS
 
-  pub inside_none : (mid : List Write) (m n : ℕ) (ns : List ℕ) → m ≤ length mid → Inside mid m n ns mid m 0
-  inside_none mid m n ns h = record { onward = omega arith; filled = record { front = refl; back = refl; within = h } }
+module _ (make : Entry → Writing) (test : Entry → Bool) (rs : List Route) (f : ℕ → ℕ) where
+  -- the writes from a turn on, and from the place i of the lines within a turn on
+  abbrev pub at_turn : ℕ → List Writing
+  at_turn n = remaining make test rs (turns f (33 - n) n)
 
--- `total` is to be written to `was`; as the loop over the lengths n and ns began its turn, m of `mid` were written
-module _ {make : Entry → Writing} {test : Entry → Bool} {rs : List Route} {total : List Writing} {was mid out : List Write} {m n k i : ℕ} {lens ns : List ℕ}
-    (begun : Filled total was mid m (remaining make test rs lens)) (head : lens ≡ n ∷ ns) (inside : Inside make test rs mid m n ns out k i) where
-  pub inside_filled : Filled total was out k (partial make test rs n ns i)
-  inside_filled =
-      let z : remaining make test rs lens ≡ partial make test rs n ns 0 = ap (remaining make test rs) head ∙ remaining_first make test rs n ns in
-      let P : List Writing → Type 0 = λ us. Filled total was mid m us in
-      filled_on total was mid out m k (partial make test rs n ns 0) (partial make test rs n ns i) (subst P z begun) inside.filled inside.onward
+  abbrev pub within_turn : ℕ → ℕ → List Writing
+  within_turn n i = partial make test rs (f n) (turns f (33 - (n + 1)) (n + 1)) i
 
-  pub inside_all : length rs ≤ i → Filled total was out k (remaining make test rs ns)
-  inside_all h = let P : List Writing → Type 0 = λ us. Filled total was out k us in subst P (partial_all make test rs n ns i h) inside_filled
+  pub turn_begins : (n : ℕ) → n < 33 → at_turn n ≡ within_turn n 0
+  unfolding tiers turns
+  turn_begins n h =
+      let e : 33 - n ≡ suc (33 - (n + 1)) = omega arith in
+      let z : n + 1 ≡ suc n = omega arith in
+      rw (e, z)
 
-  pub inside_full : (count : ℕ) → k ≡ count → count ≡ length total → Done total was out count
-  inside_full count e h = filled_full total was out k count (partial make test rs n ns i) inside_filled e h
+  pub turn_ends : (n i : ℕ) → length rs ≤ i → within_turn n i ≡ at_turn (n + 1)
+  turn_ends n i h = partial_all make test rs (f n) (turns f (33 - (n + 1)) (n + 1)) i h
 
-  pub inside_skip : (r : Route) → i < length rs → r ≡ get_or rs i r → (length (entry_of r).prefix ≡ n → ⊥) ⊎ (test (entry_of r) ≡ false) → Inside make test rs mid m n ns out k (i + 1)
-  inside_skip r h is s =
-      let P : List Writing → Type 0 = λ us. Filled (writings_of (take m mid) ++ partial make test rs n ns 0) mid out k us in
-      record { onward = inside.onward; filled = subst P (partial_skip make test rs n ns i r h is s) inside.filled }
-
-  module _ (w : Write) (r : Route) (h : i < length rs) (is : r ≡ get_or rs i r) (e : length (entry_of r).prefix ≡ n) (g : test (entry_of r) ≡ true) (made : writing_of w ≡ make (entry_of r)) where
-    next_is : partial make test rs n ns i ≡ writing_of w ∷ partial make test rs n ns (i + 1)
-    next_is = partial_take make test rs n ns i r h is e g ∙ ap (λ (u : Writing). u ∷ partial make test rs n ns (i + 1)) (sym made)
-
-    pub inside_room : length total ≤ length out → k < length out
-    inside_room l =
-        let P : List Writing → Type 0 = λ us. Filled total was out k us in
-        filled_room total was out k (writing_of w) (partial make test rs n ns (i + 1)) (subst P next_is inside_filled) l
-
-    pub inside_more : k < length out → Inside make test rs mid m n ns (set out k w) (k + 1) (i + 1)
-    inside_more l =
-        let P : List Writing → Type 0 = λ us. Filled (writings_of (take m mid) ++ partial make test rs n ns 0) mid out k us in
-        let o = inside.onward in
-        record {
-          onward = omega arith;
-          filled = filled_more (writings_of (take m mid) ++ partial make test rs n ns 0) mid out k w (partial make test rs n ns (i + 1)) (subst P next_is inside.filled) l;
-        }
-
--- THE LENGTHS OF THE LOOPS
-
-pub below_more : (n : ℕ) → 0 < n → below n ≡ (n - 1) ∷ below (n - 1)
-unfolding below
-below_more zero h = absurd (omega arith)
-below_more (suc n) h = let e : suc n - 1 ≡ n = omega arith in rw e
-
-pub below_none : (n : ℕ) → n ≤ 0 → below n ≡ []
-unfolding below
-below_none zero h = refl
-below_none (suc n) h = absurd (omega arith)
-
-pub from_more : (w n : ℕ) → n < w → from (w - n) n ≡ n ∷ from (w - (n + 1)) (n + 1)
-unfolding from
-from_more w n h =
-    let e : w - n ≡ suc (w - (n + 1)) = omega arith in
-    let z : n + 1 ≡ suc n = omega arith in
-    rw (e, z)
-
-pub from_none : (w n : ℕ) → w ≤ n → from (w - n) n ≡ []
-unfolding from
-from_none w n h = let e : w - n ≡ 0 = omega arith in rw e
-
-pub remaining_none : (make : Entry → Writing) (test : Entry → Bool) (rs : List Route) (ns : List ℕ) → ns ≡ [] → remaining make test rs ns ≡ []
-unfolding tiers
-remaining_none make test rs ns h = rw h
-
--- WHAT IS WRITTEN IS THE PLAN
+  pub no_turn : (n : ℕ) → 33 ≤ n → at_turn n ≡ []
+  unfolding tiers turns
+  no_turn n h = let e : 33 - n ≡ 0 = omega arith in rw e
 
 every_kept : (f g : Entry → Bool) (t : Entries) → every f t ≡ true → every f (filter g t) ≡ true
 every_kept f g [] h = h
@@ -211,35 +128,36 @@ rising_kept g (e ∷ es) h =
     cond_both (g e) (e ∷ filter g es) (filter g es) (λ t. rising t ≡ true)
     (λ _. rising_from e (filter g es) (every_kept _ g es s.0) (rising_kept g es s.1)) (λ _. rising_kept g es s.1)
 
-fits_below : (w : ℕ) (t : Entries) → fits w t ≡ true → Below (suc w) t
-fits_below w [] h = tt
-fits_below w (e ∷ es) h =
-    let s = every_parts (λ f. leb (length f.prefix) w && leb f.hop 255) e es h in
-    let l = leb-true (length e.prefix) w (and_parts (leb (length e.prefix) w) (leb e.hop 255) s.0).0 in
-    (omega arith, fits_below w es s.1)
+fits_short : (t : Entries) → fits 32 t ≡ true → AllByRecursion (λ e. length e.prefix ≤ 32) t
+fits_short [] h = tt
+fits_short (e ∷ es) h =
+    let s = every_parts (λ f. leb (length f.prefix) 32 && leb f.hop 255) e es h in
+    (leb-true (length e.prefix) 32 (and_parts (leb (length e.prefix) 32) (leb e.hop 255) s.0).0, fits_short es s.1)
 
-table_below : (t : Table) → Below 33 (entries t)
-table_below t = fits_below 32 (entries t) (and_parts (distinct (entries t)) (fits 32 (entries t)) (all_sound t).0).1
+-- all of a table's lines that pass the test are written, to as many places
+module _ (first : ℕ → ℕ → Bool) (make : Entry → Writing) (test : Entry → Bool) (f : ℕ → ℕ) (through : GoesThrough first f) (t : Table) (rs : List Route) (are : map entry_of rs ≡ entries t)
+    (out : List Write) (n : ℕ) (long : length out ≡ length (filter test (entries t))) where
+  turns_are : at_turn make test rs f 0 ≡ map make (sorted_by (by_length first) (filter test (entries t)))
+  turns_are =
+      let short = fits_short (entries t) (and_parts (distinct (entries t)) (fits 32 (entries t)) (all_sound t).0).1 in
+      ap (λ (es : Entries). map make (tiers (turns f 33 0) (filter test es))) are
+      ∙ ap (map make) (sym (sorted_turns first f through (filter test (entries t)) (all_kept_by test (λ e. length e.prefix ≤ 32) (entries t) short) (rising_kept test (entries t) t.ordered)))
 
-kept_below : (g : Entry → Bool) (t : Table) → Below 33 (filter g (entries t))
-kept_below g t = all_kept_by g (λ e. length e.prefix < 33) (entries t) (table_below t)
+  turns_count : length out ≡ length (at_turn make test rs f 0)
+  turns_count =
+      long
+      ∙ sym (ap length turns_are
+      ∙ length-map (sorted_by (by_length first) (filter test (entries t))) make
+      ∙ length_sorted (by_length first) (filter test (entries t)))
 
-pub puts_are : (old new : Table) (rs : List Route) → map entry_of rs ≡ entries new → remaining Put (unheld (entries old)) rs (below 33) ≡ puts (entries old) (entries new)
-puts_are old new rs e =
-    ap (λ (es : Entries). map Put (tiers (below 33) (filter (unheld (entries old)) es))) e
-    ∙ ap (λ (es : Entries). map Put es) (sym (falls 33 (changed (entries old) (entries new)) (kept_below (unheld (entries old)) new) (rising_kept (unheld (entries old)) (entries new) new.ordered)))
+  -- no place is left
+  pub all_places : (rest : List Writing) → Filled (at_turn make test rs f 0) out n rest → n ≡ length out → writings_of out ≡ map make (sorted_by (by_length first) (filter test (entries t)))
+  all_places rest d e = filled_full (at_turn make test rs f 0) out n rest d e turns_count ∙ turns_are
 
-pub drops_are : (old new : Table) (rs : List Route) → map entry_of rs ≡ entries old → remaining dropping (unknown (entries new)) rs (from 33 0) ≡ drops (entries old) (entries new)
-drops_are old new rs e =
-    ap (λ (es : Entries). map dropping (tiers (from 33 0) (filter (unknown (entries new)) es))) e
-    ∙ ap (λ (es : Entries). map dropping es) (sym (rises 33 (fresh (entries new) (entries old)) (kept_below (unknown (entries new)) old) (rising_kept (unknown (entries new)) (entries old) old.ordered)))
-
-pub puts_count : (old new : Table) (rs : List Route) → map entry_of rs ≡ entries new → length (changed (entries old) (entries new)) ≡ length (remaining Put (unheld (entries old)) rs (below 33))
-puts_count old new rs e =
-    let t = changed (entries old) (entries new) in
-    sym (ap length (puts_are old new rs e) ∙ length-map (sorted_by longest_first t) Put ∙ length_sorted longest_first t)
-
-pub drops_count : (old new : Table) (rs : List Route) → map entry_of rs ≡ entries old → length (fresh (entries new) (entries old)) ≡ length (remaining dropping (unknown (entries new)) rs (from 33 0))
-drops_count old new rs e =
-    let t = fresh (entries new) (entries old) in
-    sym (ap length (drops_are old new rs e) ∙ length-map (sorted_by shortest_first t) dropping ∙ length_sorted shortest_first t)
+  -- no turn is left
+  pub all_turns : (k : ℕ) → 33 ≤ k → Filled (at_turn make test rs f 0) out n (at_turn make test rs f k) → writings_of out ≡ map make (sorted_by (by_length first) (filter test (entries t)))
+  all_turns k h d =
+      let e = rw (no_turn make test rs f k h) at d in
+      let l = filled_length (at_turn make test rs f 0) out n [] e in
+      let c = turns_count in
+      all_places [] e (omega arith)

@@ -1,8 +1,7 @@
 -- A slice filled in two parts, the second in the free end that the first left; and what a plan is refused by. Assumes nothing.
-use Rattle.std.proofs.Common.{◌≡◌, ℕ, ◌+◌, ◌-◌, ◌<◌, ◌≤◌, true, false, cond, ltb, List, [], ◌++◌, length, take, drop, Some, None, Option, sym, ap, ◌∙◌, subst, ap₂, inl, inr, append-nil, arith, drop-drop}
-use lib.Seq.{take-append-add, drop-append-add}
-use borrow.Rule.Slice.PartMut.{put_mid, post_of, Post-is}
-use Rattle.std.proofs.lemmas.List.{take_rest, drop_all, length-take-le, map-append}
+use Rattle.std.proofs.Common.{◌≡◌, ℕ, ◌+◌, ◌<◌, ◌≤◌, true, false, cond, ltb, List, ◌++◌, length, take, drop, Some, None, Option, sym, ap, ◌∙◌, subst, ap₂, inl, inr, arith, drop-drop}
+use Rattle.std.proofs.Math.Seq.{take-append-add, take-append_seam, drop-append-add, drop-append_seam}
+use Rattle.std.proofs.lemmas.List.{map-append}
 use Rattle.std.proofs.lemmas.Bool.{cond-true, cond-false, lt-ltb, le-ltb, cases_Bool}
 use Rattle.table.specs.Limits.{device_limit}
 use Rattle.table.specs.Tables.{Entries, rising}
@@ -16,33 +15,22 @@ use Rattle.transition.specs.Model.{writing_of, writings_of, number_of, refusal, 
 use Rattle.transition.proofs.Ending.{within_device}
 use Rattle.transition.proofs.Smoothness.{plan_is_smooth_lem}
 
--- `one` is the slice with p at its front, and `two` its free end with d at its front
-module _ (p d : List Writing) (was one two : List Write) (n m : ℕ) (within : n ≤ length one)
-    (IsWritten-one : writings_of (take n one) ≡ p) (left_one : drop n one ≡ drop n was)
-    (written-two : writings_of (take m two) ≡ d) (left-two : drop m two ≡ drop m (take (length one - n) (drop n one))) where
-  whole : put_mid n (length one - n) one two ≡ take n one ++ two
-  whole =
-      let e : post_of n (length one - n) one ≡ [] = Post-is n (length one) one within ∙ drop_all (length one) one (omega arith) in
-      ap (λ (x : List Write). take n one ++ (two ++ x)) e ∙ ap (λ (x : List Write). take n one ++ x) (append-nil two)
+-- p is written to the front, and d to the free end behind it as far as it goes
+module _ (p d : List Writing) (front free rest : List Write) (n m : ℕ) (long : length front ≡ n) (on : length free ≡ m) where
+  pub halves_written : writings_of front ≡ p → writings_of free ≡ d → writings_of (take (n + m) (front ++ (free ++ rest))) ≡ p ++ d
+  halves_written h k =
+      ap (λ j. writings_of (take (j + m) (front ++ (free ++ rest)))) (sym long)
+      ∙ ap writings_of (take-append-add front (free ++ rest) m ∙ ap (λ j. front ++ take j (free ++ rest)) (sym on) ∙ ap (λ (x : List Write). front ++ x) (take-append_seam free rest))
+      ∙ map-append writing_of front free
+      ∙ ap₂ (λ (x y : List Writing). x ++ y) h k
 
-  front_long : length (take n one) ≡ n
-  front_long = length-take-le n one within
-
-  pub halves_written : writings_of (take (n + m) (put_mid n (length one - n) one two)) ≡ p ++ d
-  halves_written =
-      ap (λ (x : List Write). writings_of (take (n + m) x)) whole
-      ∙ ap (λ k. writings_of (take (k + m) (take n one ++ two))) (sym front_long)
-      ∙ ap writings_of (take-append-add (take n one) two m)
-      ∙ map-append writing_of (take n one) (take m two)
-      ∙ ap₂ (λ (x y : List Writing). x ++ y) IsWritten-one written-two
-
-  pub halves_left : drop (n + m) (put_mid n (length one - n) one two) ≡ drop (n + m) was
-  halves_left =
-      ap (drop (n + m)) whole
-      ∙ ap (λ k. drop (k + m) (take n one ++ two)) (sym front_long)
-      ∙ drop-append-add (take n one) two m
-      ∙ left-two
-      ∙ ap (drop m) (take_rest one n ∙ left_one)
+  pub halves_left : (was : List Write) → rest ≡ drop m (drop n was) → drop (n + m) (front ++ (free ++ rest)) ≡ drop (n + m) was
+  halves_left was h =
+      ap (λ j. drop (j + m) (front ++ (free ++ rest))) (sym long)
+      ∙ drop-append-add front (free ++ rest) m
+      ∙ ap (λ j. drop j (free ++ rest)) (sym on)
+      ∙ drop-append_seam free rest
+      ∙ h
       ∙ drop-drop m n was
 
 -- writes that are the plan's are smooth

@@ -1,5 +1,6 @@
 -- Tables of the code: what they hold, and the steps of going through their routes. Assumes nothing.
-use Rattle.std.proofs.Common.{◌≡◌, ℕ, ◌+◌, ◌<◌, ◌≤◌, Bool, true, false, cond, not, eqb, List, ◌∷◌, map, length, get_or, drop, is_some, Some, None, filter, sym, refl, ap, ◌∙◌, arith}
+use Rattle.std.proofs.Common.{◌≡◌, ℕ, ◌+◌, ◌<◌, ◌≤◌, Bool, true, false, cond, not, eqb, List, ◌∷◌, map, length, get_or, drop, is_some, Some, None, Option, filter, sym, refl, ap, ◌∙◌, arith}
+use Rattle.std.specs.Option.{option_eq}
 use Rattle.std.proofs.lemmas.List.{at_drop_more, drop_all}
 use Rattle.std.proofs.lemmas.Bool.{cond-false, le-ltb, eq-eqb, ne_eqb}
 use Rattle.std.proofs.lemmas.Bool.Decides.{nat_tests}
@@ -24,6 +25,14 @@ apart t = rising_distinct (entries t) t.ordered
 
 pub held_at : (e : Entry) (t : Table) → holds e (entries t) ≡ is_hop e.hop (at (entries t) e.prefix)
 held_at e t = holds_at e (entries t) (apart t)
+
+hop_eq : (x : ℕ) (o : Option ℕ) → option_eq eqb o (Some x) ≡ is_hop x o
+hop_eq x None = refl
+hop_eq x (Some y) = same_turn y x
+
+-- what stands at a line's prefix is its next hop exactly where the table has the line
+pub held_by : (e : Entry) (t : Table) → option_eq eqb (at (entries t) e.prefix) (Some e.hop) ≡ holds e (entries t)
+held_by e t = hop_eq e.hop (at (entries t) e.prefix) ∙ sym (held_at e t)
 
 -- counting the routes of a new table that an old one has not: what is counted and what is left are all
 

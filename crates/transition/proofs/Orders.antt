@@ -1,32 +1,12 @@
 -- The orders of writes, by length and then by bits, are strict and total. Assumes nothing.
-use Rattle.std.proofs.Common.{◌≡◌, ℕ, Bool, true, false, ◌&&◌, eqb, ltb, ◌⊎◌, length, sym, ◌∙◌, inl, inr, arith}
+use Rattle.std.proofs.Common.{◌≡◌, ℕ, Bool, true, false, ◌&&◌, eqb, ltb, ◌⊎◌, length, sym, ◌∙◌, inl, inr}
 use Rattle.std.proofs.lemmas.Bool.{cases_Bool, cases_eq, or_cases, or_parts, or_from, or_left, or_right, and_parts, and_from, and_cases, and_left, and_right, both_ways, eqb-true, eq-eqb, ne_eqb, ltb-true}
-use Rattle.std.proofs.lemmas.Bool.Decides.{nat_tests}
 use Rattle.prefix.specs.Bits.{Bits, same, before}
 use Rattle.prefix.proofs.Order.{before_irrefl, before_trans, before_other}
 use Rattle.table.specs.Tables.{Entries, distinct}
+use Rattle.transition.specs.Passes.{Strict, longer_strict, shorter_strict}
 use Rattle.transition.specs.Plans.{by_length, is_longer, longest_first, shortest_first, sorted_by}
 use Rattle.transition.proofs.Reach.{Farther, Pairs, sorted_pairs, pairs_map}
-
--- an order of lengths that is strict and total
-pub record Strict (first : ℕ → ℕ → Bool) : Type 0 where
-  pub irrefl : (n : ℕ) → first n n ≡ false
-  pub trans : (m n k : ℕ) → first m n ≡ true → first n k ≡ true → first m k ≡ true
-  pub total : (m n : ℕ) → first m n ≡ false → (m ≡ n → ⊥) → first n m ≡ true
-
-pub longer_strict : Strict is_longer
-longer_strict = record {
-  irrefl = λ n. grind (arith, nat_tests);
-  trans = λ m n k h g. grind (arith, nat_tests);
-  total = λ m n h g. grind (arith, nat_tests);
-}
-
-pub shorter_strict : Strict ltb
-shorter_strict = record {
-  irrefl = λ n. grind (arith, nat_tests);
-  trans = λ m n k h g. grind (arith, nat_tests);
-  total = λ m n h g. grind (arith, nat_tests);
-}
 
 module _ (first : ℕ → ℕ → Bool) (strict : Strict first) where
   -- a prefix that comes before another has a length that comes first, or as many bits and lower ones

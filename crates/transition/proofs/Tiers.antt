@@ -1,14 +1,14 @@
 -- Lines of a table in order, gone through length by length, come sorted by length and then by bits. Assumes nothing.
-use Rattle.std.proofs.Common.{◌≡◌, ℕ, zero, suc, ◌+◌, ◌<◌, ◌≤◌, Bool, true, false, eqb, ltb, ◌⊎◌, List, [], ◌∷◌, ◌++◌, length, filter, sym, refl, ap, ◌∙◌, inl, inr, arith}
+use Rattle.std.proofs.Common.{◌≡◌, ℕ, zero, suc, ◌+◌, ◌<◌, ◌≤◌, Bool, true, false, eqb, ◌⊎◌, List, [], ◌∷◌, ◌++◌, length, filter, sym, refl, ap, subst, ◌∙◌, inl, inr, arith}
 use Rattle.std.specs.List.{AllByRecursion}
 use Rattle.std.proofs.ByRecursion.{All-append, All-weaker}
 use Rattle.std.proofs.lemmas.Bool.{cases_eq, cond_both, both_ways, eq-eqb, ne_eqb, eqb-true}
-use Rattle.std.proofs.lemmas.Bool.Decides.{nat_tests}
 use Rattle.prefix.specs.Bits.{Bits, before}
 use Rattle.table.specs.Tables.{Entry, Entries, leads, rising}
 use Rattle.table.proofs.Rising.{leads_parts, rising_parts}
-use Rattle.transition.specs.Plans.{by_length, is_longer, insert_by, sorted_by}
-use Rattle.transition.proofs.Orders.{Strict, longer_strict, shorter_strict, by_first, by_bits, not_first}
+use Rattle.transition.specs.Passes.{Strict, GoesThrough}
+use Rattle.transition.specs.Plans.{by_length, insert_by, sorted_by}
+use Rattle.transition.proofs.Orders.{by_first, by_bits, not_first}
 
 -- the lines of one length
 abbrev pub tier : ℕ → Entries → Entries
@@ -19,14 +19,10 @@ unfoldable pub tiers : List ℕ → Entries → Entries
 tiers [] t = []
 tiers (n ∷ ns) t = tier n t ++ tiers ns t
 
--- the lengths below n, falling; and k lengths from n on, rising
-unfoldable pub below : ℕ → List ℕ
-below zero = []
-below (suc n) = n ∷ below n
-
-unfoldable pub from : ℕ → ℕ → List ℕ
-from zero n = []
-from (suc k) n = n ∷ from k (suc n)
+-- the lengths at k turns from n on
+unfoldable pub turns : (ℕ → ℕ) → ℕ → ℕ → List ℕ
+turns f zero n = []
+turns f (suc k) n = f n ∷ turns f k (suc n)
 
 -- a length is one of these
 unfoldable pub Among : ℕ → List ℕ → Type 0
@@ -128,54 +124,35 @@ module _ (first : ℕ → ℕ → Bool) (strict : Strict first) where
       let s = rising_parts e es r in
       rw (tiers_sort ns es o a.1 s.1) (insert_tiers ns e es o a.0 (leads_all e es s.0))
 
--- the two orders of lengths
+-- the lengths of all turns
 
-below_less : (n m : ℕ) → n ≤ m → AllByRecursion (λ k. is_longer m k ≡ true) (below n)
-unfolding below
-below_less zero m h = tt
-below_less (suc n) m h = (grind (arith, nat_tests), below_less n m (omega arith))
+turns_later : (first : ℕ → ℕ → Bool) (f : ℕ → ℕ) (through : GoesThrough first f) (k n j : ℕ) → j < n → n + k ≤ 33 → AllByRecursion (λ m. first (f j) m ≡ true) (turns f k n)
+unfolding turns
+turns_later first f through zero n j h l = tt
+turns_later first f through (suc k) n j h l = (through.ordered j n h (omega arith), turns_later first f through k (suc n) j (omega arith) (omega arith))
 
-below_ordered : (n : ℕ) → Ordered is_longer longer_strict (below n)
-unfolding below Ordered
-below_ordered zero = tt
-below_ordered (suc n) = (below_less n n (omega arith), below_ordered n)
+turns_ordered : (first : ℕ → ℕ → Bool) (f : ℕ → ℕ) (through : GoesThrough first f) (k n : ℕ) → n + k ≤ 33 → Ordered first through.strict (turns f k n)
+unfolding turns Ordered
+turns_ordered first f through zero n l = tt
+turns_ordered first f through (suc k) n l = (turns_later first f through k (suc n) n (omega arith) (omega arith), turns_ordered first f through k (suc n) (omega arith))
 
-pub below_among : (n m : ℕ) → m < n → Among m (below n)
-unfolding below Among
-below_among zero m h = absurd (omega arith)
-below_among (suc n) m h =
-    elim (cases_eq m n) [
-      | inl e ↦ inl e
-      | inr e ↦ inr (below_among n m (omega arith))
+turns_among : (f : ℕ → ℕ) (k n j : ℕ) → n ≤ j → j < n + k → Among (f j) (turns f k n)
+unfolding turns Among
+turns_among f zero n j h l = absurd (omega arith)
+turns_among f (suc k) n j h l =
+    elim (cases_eq j n) [
+      | inl e ↦ inl (ap f e)
+      | inr e ↦ inr (turns_among f k (suc n) j (omega arith) (omega arith))
     ]
 
-from_more : (k n m : ℕ) → m < n → AllByRecursion (λ j. ltb m j ≡ true) (from k n)
-unfolding from
-from_more zero n m h = tt
-from_more (suc k) n m h = (grind (arith, nat_tests), from_more k (suc n) m (omega arith))
+among_all : (first : ℕ → ℕ → Bool) (f : ℕ → ℕ) → GoesThrough first f → (m : ℕ) → m ≤ 32 → Among m (turns f 33 0)
+among_all first f through m h =
+    let (j, l, e) = through.reached m h in
+    subst (λ (n : ℕ). Among n (turns f 33 0)) e (turns_among f 33 0 j (omega arith) (omega arith))
 
-from_ordered : (k n : ℕ) → Ordered ltb shorter_strict (from k n)
-unfolding from Ordered
-from_ordered zero n = tt
-from_ordered (suc k) n = (from_more k (suc n) n (omega arith), from_ordered k (suc n))
-
-pub from_among : (k n m : ℕ) → n ≤ m → m < n + k → Among m (from k n)
-unfolding from Among
-from_among zero n m h l = absurd (omega arith)
-from_among (suc k) n m h l =
-    elim (cases_eq m n) [
-      | inl e ↦ inl e
-      | inr e ↦ inr (from_among k (suc n) m (omega arith) (omega arith))
-    ]
-
--- a table in order whose prefixes have fewer than w bits
-abbrev pub Below : ℕ → Entries → Type 0
-Below w t = AllByRecursion (λ e. length e.prefix < w) t
-
-pub falls : (w : ℕ) (t : Entries) → Below w t → rising t ≡ true → sorted_by (by_length is_longer) t ≡ tiers (below w) t
-falls w t h r = tiers_sort is_longer longer_strict (below w) t (below_ordered w) (All-weaker (λ e. length e.prefix < w) (λ e. Among (length e.prefix) (below w)) (λ e l. below_among w (length e.prefix) l) t h) r
-
-pub rises : (w : ℕ) (t : Entries) → Below w t → rising t ≡ true → sorted_by (by_length ltb) t ≡ tiers (from w 0) t
-rises w t h r =
-    tiers_sort ltb shorter_strict (from w 0) t (from_ordered w 0)
-    (All-weaker (λ e. length e.prefix < w) (λ e. Among (length e.prefix) (from w 0)) (λ e l. from_among w 0 (length e.prefix) (omega arith) (omega arith)) t h) r
+-- a table in order, of prefixes of at most 32 bits, gone through by turns
+pub sorted_turns : (first : ℕ → ℕ → Bool) (f : ℕ → ℕ) → GoesThrough first f → (t : Entries) → AllByRecursion (λ e. length e.prefix ≤ 32) t → rising t ≡ true →
+    sorted_by (by_length first) t ≡ tiers (turns f 33 0) t
+sorted_turns first f through t h r =
+    tiers_sort first through.strict (turns f 33 0) t (turns_ordered first f through 33 0 (omega arith))
+    (All-weaker (λ e. length e.prefix ≤ 32) (λ e. Among (length e.prefix) (turns f 33 0)) (λ e l. among_all first f through (length e.prefix) l) t h) r

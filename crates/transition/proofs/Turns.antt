@@ -13,7 +13,8 @@ use Rattle.transition.specs.Laws.{PlanIs, ByDifference}
 use Rattle.transition.proofs.Lines.{is_hop, has_at, holds_at, distinct_kept}
 use Rattle.transition.proofs.Overlays.{putting, leaving, changed_of, fresh_of, putting_at, leaving_at, distinct_putting}
 use Rattle.transition.proofs.Reach.{Pairs}
-use Rattle.transition.proofs.Orders.{longer_strict, shorter_strict, order_trans, order_irrefl, order_sorted}
+use Rattle.transition.specs.Passes.{longer_strict, shorter_strict}
+use Rattle.transition.proofs.Orders.{order_trans, order_irrefl, order_sorted}
 
 -- which writes there are
 

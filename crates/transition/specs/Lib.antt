@@ -1,5 +1,6 @@
 pub mod Writes
 pub mod Plans
+pub mod Passes
 pub mod Laws
 pub mod NearMisses
 pub mod Examples

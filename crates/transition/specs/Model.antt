@@ -1,5 +1,5 @@
 -- What the code's writes and refusals mean. Assumes nothing.
-use Rattle.std.specs.Prelude.{ℕ, cond, List, map, length, Some, None, Option, nat_lt}
+use Rattle.std.specs.Prelude.{ℕ, if◌then◌else◌, List, map, length, Some, None, Option, nat_lt, codes}
 use Rattle.prefix.specs.Model.{bits}
 use Rattle.table.specs.Routes.{entry_of}
 use Rattle.table.specs.Tables.{Entries}
@@ -25,10 +25,16 @@ abbrev pub number_of : Refusal → ℕ
 number_of TooManyLines = 7
 number_of SliceTooShort = 0
 
+-- what a refusal says in words
+abbrev pub words_of : Refusal → List ℕ
+words_of TooManyLines = codes "going over takes more lines than the device holds"
+words_of SliceTooShort = codes "the slice has fewer places than the plan has writes"
+
 -- the number by which going over from old to new is refused, if it is
 abbrev pub refusal : Entries → Entries → Option ℕ
-refusal old new = cond (crowded old new) (Some (number_of TooManyLines)) None
+refusal old new = (if crowded old new then Some (number_of TooManyLines) else None)
 
 -- the same where the plan is to be written to so many places: the count is judged first, and then the places
 abbrev pub refusal_in : Entries → Entries → ℕ → Option ℕ
-refusal_in old new places = cond (crowded old new) (Some (number_of TooManyLines)) (cond (nat_lt places (length (plan old new))) (Some (number_of SliceTooShort)) None)
+refusal_in old new places =
+    (if crowded old new then Some (number_of TooManyLines) else if nat_lt places (length (plan old new)) then Some (number_of SliceTooShort) else None)

@@ -1,5 +1,5 @@
 -- The plan: the writes that take a device from an old table to a new one, in their order, for any width of addresses. Assumes nothing.
-use Rattle.std.specs.Prelude.{◌≡◌, ℕ, ◌+◌, Bool, true, false, cond, not, ◌&&◌, ◌||◌, List, [], ◌∷◌, ◌++◌, map, length, filter, ◌==◌, nat_lt}
+use Rattle.std.specs.Prelude.{◌≡◌, ℕ, ◌+◌, Bool, true, false, if◌then◌else◌, not, ◌&&◌, ◌||◌, List, [], ◌∷◌, ◌++◌, map, length, filter, ◌==◌, nat_lt}
 use Rattle.prefix.specs.Bits.{Bits, same, before}
 use Rattle.table.specs.Limits.{device_limit}
 use Rattle.table.specs.Tables.{Entry, Entries, has, holds}
@@ -36,7 +36,7 @@ shortest_first p q = by_length nat_lt p q
 -- a line put before the first that it comes before, in an order of prefixes
 unfoldable pub insert_by : (Bits → Bits → Bool) → Entry → Entries → Entries
 insert_by f e [] = e ∷ []
-insert_by f e (k ∷ ks) = cond (f e.prefix k.prefix) (e ∷ k ∷ ks) (k ∷ insert_by f e ks)
+insert_by f e (k ∷ ks) = (if f e.prefix k.prefix then e ∷ k ∷ ks else k ∷ insert_by f e ks)
 
 -- lines in an order of prefixes
 unfoldable pub sorted_by : (Bits → Bits → Bool) → Entries → Entries

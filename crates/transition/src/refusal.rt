@@ -1,5 +1,8 @@
-ghost use Rattle.std.specs.Prelude.{◌≡◌};
-ghost use Rattle.transition.specs.Model.{number_of};
+ghost use Rattle.std.specs.Prelude.{◌≡◌, Some};
+ghost use Rattle.transition.specs.Model.{number_of, words_of};
+
+use std::error::Error;
+use std::fmt;
 
 // Why a plan is not made.
 #[derive(Clone, Copy, PartialEq, Eq, Debug)]
@@ -10,14 +13,27 @@ pub enum Refusal {
     SliceTooShort,
 }
 
-impl Refusal {
-    // The number by which it is known outside; 0 where it has none.
-    pub fn number(self) -> u8
-        ensures { result ≡ number_of self }
-    {
-        match self {
+// The number by which it is known outside; 0 where it has none.
+impl From<Refusal> for u8 {
+    ghost from_gives = { λ refusal number. number ≡ number_of refusal };
+
+    fn from(refusal: Refusal) -> u8 {
+        match refusal {
             Refusal::TooManyLines => 7,
             Refusal::SliceTooShort => 0,
         }
     }
 }
+
+impl fmt::Display for Refusal {
+    ghost output = { λ refusal. Some (words_of refusal) };
+
+    fn fmt<W: fmt::Write>(&self, f: &mut fmt::Formatter<W>) -> fmt::Result {
+        f.write_str(match self {
+            Refusal::TooManyLines => "going over takes more lines than the device holds",
+            Refusal::SliceTooShort => "the slice has fewer places than the plan has writes",
+        })
+    }
+}
+
+impl Error for Refusal {}

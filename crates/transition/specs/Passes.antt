@@ -1,0 +1,47 @@
+-- Passes over lines length by length: in which orders, and that none is left out. Assumes nothing.
+use Rattle.std.specs.Prelude.{◌≡◌, ℕ, ◌-◌, ◌<◌, ◌≤◌, Bool, true, false, nat_lt, refl}
+use Rattle.std.proofs.Common.{arith}
+use Rattle.std.proofs.lemmas.Bool.Decides.{nat_tests}
+use Rattle.transition.specs.Plans.{is_longer}
+
+-- an order of lengths that is strict and total
+pub record Strict (first : ℕ → ℕ → Bool) : Type 0 where
+  pub irrefl : (n : ℕ) → first n n ≡ false
+  pub trans : (m n k : ℕ) → first m n ≡ true → first n k ≡ true → first m k ≡ true
+  pub total : (m n : ℕ) → first m n ≡ false → (m ≡ n → ⊥) → first n m ≡ true
+
+-- one length at each turn from 0 to 32: those come first that the order puts first, and each of 0 to 32 has a turn
+pub record GoesThrough (first : ℕ → ℕ → Bool) (length_at : ℕ → ℕ) : Type 0 where
+  pub strict : Strict first
+  pub ordered : (j k : ℕ) → j < k → k ≤ 32 → first (length_at j) (length_at k) ≡ true
+  pub reached : (n : ℕ) → n ≤ 32 → (k : ℕ) × (k ≤ 32) × (length_at k ≡ n)
+
+-- the longest first, at the turns from 32 down, and the shortest first, at the turns from 0 up
+
+pub longer_strict : Strict is_longer
+longer_strict = record {
+  irrefl = λ n. grind (arith, nat_tests);
+  trans = λ m n k h g. grind (arith, nat_tests);
+  total = λ m n h g. grind (arith, nat_tests);
+}
+
+pub shorter_strict : Strict nat_lt
+shorter_strict = record {
+  irrefl = λ n. grind (arith, nat_tests);
+  trans = λ m n k h g. grind (arith, nat_tests);
+  total = λ m n h g. grind (arith, nat_tests);
+}
+
+pub longest_through : GoesThrough is_longer (λ turn. 32 - turn)
+longest_through = record {
+  strict = longer_strict;
+  ordered = λ j k h l. grind (arith, nat_tests);
+  reached = λ n h. (32 - n, omega arith, omega arith);
+}
+
+pub shortest_through : GoesThrough nat_lt (λ turn. turn)
+shortest_through = record {
+  strict = shorter_strict;
+  ordered = λ j k h l. grind (arith, nat_tests);
+  reached = λ n h. (n, h, refl);
+}
