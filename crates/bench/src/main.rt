@@ -72,10 +72,12 @@ fn sum_of(writes: &[Write]) -> CheckSum {
 fn go_over(
     rt: &HostRuntime,
     name: &str,
-    going: Transition<'_>,
+    old: &Table,
+    new: &Table,
     timed: bool,
 ) -> anyhow::Result<()> {
     let mut writes = vec![in rt.alloc(); Write::Drop(Prefix::empty()); 2 * DEVICE_LIMIT]?;
+    let going = Transition { old, new };
     let start = Instant::now(rt)?;
     let mut made = Ok(0);
     for _ in 0..PLANS {
@@ -103,9 +105,7 @@ fn run_lookups(rt: &HostRuntime, timed: bool) -> anyhow::Result<()> {
     let (found, sum) = look_up(&table);
     let looked = start.elapsed(rt)?.as_nanos() / LOOKUPS as u128;
     let lines = table.len();
-    println!(rt;
-        "{lines} lines, {LOOKUPS} look-ups, {found} found, check sum {sum}"
-    )?;
+    println!(rt; "{lines} lines, {LOOKUPS} look-ups, {found} found, check sum {sum}")?;
     if timed {
         println!(rt; "filled in {filled} ms, {looked} ns a look-up")?;
     }
@@ -116,15 +116,15 @@ fn run_plans(rt: &HostRuntime, timed: bool) -> anyhow::Result<()> {
     let heap = rt.alloc();
     let full = fill(heap, 3, DEVICE_LIMIT, 0)?;
     let turned = fill(heap, 3, DEVICE_LIMIT, 1)?;
-    go_over(rt, "other next hops", Transition { old: &full, new: &turned }, timed)?;
+    go_over(rt, "other next hops", &full, &turned, timed)?;
     let half = fill(heap, 3, DEVICE_LIMIT / 2, 0)?;
     let others = fill(heap, 4, DEVICE_LIMIT / 2, 0)?;
-    go_over(rt, "other prefixes", Transition { old: &half, new: &others }, timed)?;
+    go_over(rt, "other prefixes", &half, &others, timed)?;
     let empty = Table::new(heap);
-    go_over(rt, "from empty", Transition { old: &empty, new: &full }, timed)?;
-    go_over(rt, "to empty", Transition { old: &full, new: &empty }, timed)?;
+    go_over(rt, "from empty", &empty, &full, timed)?;
+    go_over(rt, "to empty", &full, &empty, timed)?;
     let strange = fill(heap, 4, DEVICE_LIMIT, 0)?;
-    go_over(rt, "too many", Transition { old: &full, new: &strange }, timed)
+    go_over(rt, "too many", &full, &strange, timed)
 }
 
 fn main(rt: HostRuntime) -> anyhow::Result<()> {
