@@ -1,14 +1,11 @@
 use Rattle.std.proofs.Common.{◌≡◌, suc, ◌-◌, false, Some, sym, ap, ◌∙◌, arith}
-use Rattle.std.proofs.lemmas.Option.{slice_get-get_or, slice_get_past}
+use Rattle.std.proofs.lemmas.Option.{slice_get-get_or}
 use Rattle.std.proofs.lemmas.List.{get_or-take}
 use Rattle.prefix.specs.Bits.{bits_of, odd}
 use Rattle.prefix.specs.Model.{bits}
 use Rattle.prefix.proofs.Words.{bits_at}
 use Rattle.prefix.proofs.Meaning.{bits_length}
 use Rattle.prefix.proofs.cidr.Prefix.bit.Goals as goal
-
-pub returns-then-place-self : goal.returns-then-place-self
-returns-then-place-self c = sym (slice_get_past (bits c.args.self) c.args.place (omega (arith, bits_length c.args.self)))
 
 pub returns : goal.returns
 returns c =

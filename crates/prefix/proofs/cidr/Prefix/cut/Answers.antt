@@ -1,14 +1,9 @@
 use Rattle.std.proofs.Common.{◌-◌, ◌≤◌, length, take, sym, ap, ◌∙◌, arith, length-take}
-use Rattle.std.proofs.lemmas.List.{take_all, take-take}
+use Rattle.std.proofs.lemmas.List.{take-take}
 use Rattle.prefix.specs.Bits.{bits_of}
 use Rattle.prefix.specs.Model.{bits}
-use Rattle.prefix.proofs.Meaning.{bits_length, bits_cleared, cleared_mod}
+use Rattle.prefix.proofs.Meaning.{bits_cleared, cleared_mod}
 use Rattle.prefix.proofs.cidr.Prefix.cut.Goals as goal
-
-pub returns-then-len-self : goal.returns-then-len-self
-returns-then-len-self c =
-    let l = bits_length c.args.self in
-    record { value = sym (take_all c.args.len (bits c.args.self) (omega arith)); long = omega arith }
 
 pub invariant_of-result : goal.invariant_of-result
 invariant_of-result c =
