@@ -1,5 +1,6 @@
 -- The vectors of a table: as long as each other, and what they hold after a change at a place. Assumes nothing.
-use Rattle.std.proofs.Common.{◌≡◌, ℕ, ◌-◌, ◌<◌, ◌≤◌, true, List, [], ◌∷◌, map, length, get_or, set, vec_items, vec_len, vec_capacity, sym, refl, ap, ◌∙◌, subst, arith}
+use Rattle.std.proofs.Common.{◌≡◌, ℕ, ◌+◌, ◌<◌, ◌≤◌, true, List, [], ◌∷◌, map, length, set, vec_items, vec_len, vec_capacity, Some, None, Ok, Err, Result, sym, refl, ap, ◌∙◌, subst, arith}
+use Rattle.std.specs.Result.{result_ok}
 use Rattle.std.specs.List.{insert, remove}
 use Rattle.std.proofs.lemmas.List.{length-map, map-set}
 use Rattle.std.proofs.lemmas.Bool.{and_from, le-leb}
@@ -7,12 +8,12 @@ use Rattle.prefix.specs.Bits.{Bits}
 use Rattle.prefix.specs.Model.{bits}
 use Rattle.table.specs.declared.route.Route.{Route}
 use Rattle.table.specs.declared.table.Table.{Table}
-use Rattle.table.specs.Tables.{Entries, fits, put, without, rising, every}
+use Rattle.table.specs.Tables.{Entries, fits, at, put, without, rising, every}
 use Rattle.table.specs.Routes.{entry_of, network_of}
-use Rattle.table.specs.Search.{prefix_at, Ranked, Stands, Missing}
+use Rattle.table.specs.Search.{Located, Stands, Missing}
 use Rattle.table.specs.Model.{entries, room, AllSound}
 use Rattle.table.proofs.Rising.{rising_distinct, rising_put, rising_without}
-use Rattle.table.proofs.Places.{standing, lacking, key_short, map_inserted, map_removed, networks_stay, prefix_at_lem}
+use Rattle.table.proofs.Places.{standing, lacking, key_short, map_inserted, map_removed, networks_stay}
 
 -- both vectors have as many elements as there are lines
 long : (t : Table) → (vec_len t.routes ≡ length (entries t)) × (vec_len t.networks ≡ length (entries t)) × (length (vec_items t.routes) ≡ length (entries t)) × (length (vec_items t.networks) ≡ length (entries t))
@@ -35,6 +36,16 @@ within t p i s =
     let l = long t in let w = s.within in
     record { in_routes = omega (arith, l.0); in_networks = omega (arith, l.1); in_items = omega (arith, l.2) }
 
+-- what a search tells that is asked only where the line of p stands
+module _ (t : Table) (p : Bits) where
+  pub stands : (r : Result ℕ ℕ) (i : ℕ) → Located (entries t) p r → Some i ≡ result_ok r → Stands (entries t) p i
+  stands (Ok j) i s e = let same : i ≡ j = cc in rw same s
+  stands (Err j) i m e = absurd (cc)
+
+  pub lacks : (r : Result ℕ ℕ) → Located (entries t) p r → None ≡ result_ok r → (None ≡ at (entries t) p) × (entries t ≡ without p (entries t))
+  lacks (Ok j) s e = absurd (cc)
+  lacks (Err j) m e = let l = lacking (entries t) p j m in (sym l.none, sym l.leaves)
+
 pub record Upto (t : Table) (i : ℕ) : Type 0 where
   pub in_routes : i ≤ vec_len t.routes
   pub in_networks : i ≤ vec_len t.networks
@@ -46,11 +57,8 @@ upto t p i s =
     record { in_routes = omega (arith, l.0); in_networks = omega (arith, l.1); in_items = omega (arith, l.3) }
 
 -- the last of the routes that come no later than a key
-pub last_within : (t : Table) (p : Bits) (r : ℕ) → Ranked (entries t) p r → (r ≡ 0 → ⊥) → (r - 1 < vec_len t.routes) × (r - 1 < length (vec_items t.routes))
-last_within t p r k n = let l = long t in (omega (arith, k.within, l.0), omega (arith, k.within, l.2))
-
-pub last_prefix : (t : Table) (p : Bits) (r : ℕ) (route : Route) → Ranked (entries t) p r → (r ≡ 0 → ⊥) → route ≡ get_or (vec_items t.routes) (r - 1) route → prefix_at (entries t) (r - 1) ≡ bits route.prefix
-last_prefix t p r route k n is = prefix_at_lem (vec_items t.routes) (r - 1) route (last_within t p r k n).1 is
+pub last_place : (t : Table) (i : ℕ) → i + 1 ≤ length (entries t) → i < length (vec_items t.routes)
+last_place t i h = omega (arith, length-map (vec_items t.routes) entry_of)
 
 -- a table that holds the same lines lacks the same prefix
 pub missing_at : (t u : Table) (p : Bits) (i : ℕ) → entries u ≡ entries t → Missing (entries t) p i → Missing (entries u) p i

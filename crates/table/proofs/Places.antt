@@ -1,15 +1,13 @@
 -- Rising tables by places: where a prefix stands or would stand, and what puts and drops do there. Assumes nothing.
-use Rattle.std.proofs.Common.{◌≡◌, ℕ, zero, suc, ◌-◌, ◌<◌, ◌≤◌, true, false, cond, not, ltb, leb, List, [], ◌∷◌, ◌++◌, map, length, get_or, take, drop, set, Some, None, Less, Equal, Greater, sym, refl, ap, ◌∙◌, subst, inl, inr, arith}
+use Rattle.std.proofs.Common.{◌≡◌, ℕ, zero, suc, ◌+◌, ◌<◌, ◌≤◌, true, false, List, [], ◌∷◌, ◌++◌, map, length, get_or, take, drop, set, Some, None, sym, refl, ap, ◌∙◌, inl, inr, arith}
 use Rattle.std.specs.List.{insert as inserted, remove}
 use Rattle.std.proofs.lemmas.List.{get_or-map, length-map, map-append, map-set, set-get_or, take-map, drop-map}
 use Rattle.std.proofs.lemmas.Bool.{cond-true, cond-false, cases_Bool, cases_lt, both_ways, or_from}
-use Rattle.std.proofs.lemmas.Bool.Decides.{nat_tests}
 use Rattle.prefix.specs.Bits.{Bits, same, before, number}
-use Rattle.prefix.specs.Model.{bits, compared}
-use Rattle.prefix.proofs.Strings.{same_refl, same_eq}
-use Rattle.prefix.proofs.Order.{before_not, before_total, before_trans, before_differ, differ_turn}
+use Rattle.prefix.specs.Model.{bits}
+use Rattle.prefix.proofs.Strings.{same_refl}
+use Rattle.prefix.proofs.Order.{before_not, before_total, before_total, before_trans, before_differ, differ_turn}
 use Rattle.prefix.specs.declared.cidr.Prefix.{Prefix}
-use Rattle.prefix.proofs.Numbers.{by_number}
 use Rattle.prefix.proofs.Meaning.{bits_length}
 use Rattle.table.specs.declared.route.Route.{Route}
 use Rattle.table.specs.Tables.{Entry, Entries, has, pick, at, without, insert, put, leads, rising, every}
@@ -17,27 +15,6 @@ use Rattle.table.specs.Routes.{entry_of, network_of}
 use Rattle.table.specs.Search.{entry_at, prefix_at, Ranked, Stands, Missing}
 use Rattle.table.proofs.Picks.{without_none}
 use Rattle.table.proofs.Rising.{leads_parts, leads_from, leads_has, rising_parts}
-
--- what a comparison tells
-
-compared_equal : (q p : Bits) → Equal ≡ compared q p → q ≡ p
-compared_equal q p e =
-    elim (cases_Bool (before q p)) [
-      | inl y ↦ let z = e ∙ cond-true (before q p) Less (cond (same q p) Equal Greater) y in let n : ◌≡◌ {A = ℕ} 0 1 = cc in absurd (omega arith)
-      | inr y ↦ elim (cases_Bool (same q p)) [
-        | inl s ↦ same_eq q p s
-        | inr s ↦
-            let z = e ∙ cond-false (before q p) Less (cond (same q p) Equal Greater) y ∙ cond-false (same q p) Equal Greater s in
-            let n : ◌≡◌ {A = ℕ} 0 1 = cc in absurd (omega arith)
-      ]
-    ]
-
-compared_before : (q p : Bits) → before p q ≡ false → (compared q p ≡ Equal → ⊥) → before q p ≡ true
-compared_before q p b d =
-    elim (cases_Bool (before q p)) [
-      | inl y ↦ y
-      | inr y ↦ absurd (d (cond-false (before q p) Less (cond (same q p) Equal Greater) y ∙ cond-true (same q p) Equal Greater (rw (before_total q p y b) (same_refl p))))
-    ]
 
 -- the lines of the code's routes
 
@@ -56,14 +33,6 @@ prefix_short (r ∷ rs) (suc k) = prefix_short rs k
 
 pub key_short : (p : Prefix) → length (bits p) ≤ 32
 key_short p = omega (arith, bits_length p, p.short)
-
--- a comparison by numbers, and at equal ones by lengths
-
-pub by_network : (w : ℕ) (p q : Bits) → length p ≤ w → length q ≤ w → (number w q ≡ number w p → ⊥) → ltb (number w q) (number w p) ≡ not (before p q)
-by_network w p q h k n = let e = by_number w p q h k in grind (arith, nat_tests)
-
-pub by_length : (w : ℕ) (p q : Bits) → length p ≤ w → length q ≤ w → number w q ≡ number w p → leb (length q) (length p) ≡ not (before p q)
-by_length w p q h k n = let e = by_number w p q h k in grind (arith, nat_tests)
 
 -- lines at two places
 
@@ -90,36 +59,23 @@ low_side t p k m r h n l =
       | inr y ↦ let e : k ≡ m = omega arith in rw e n
     ]
 
-pub high_side : (t : Entries) (p : Bits) (m k : ℕ) → rising t ≡ true → before p (prefix_at t m) ≡ true → m ≤ k → k < length t → before p (prefix_at t k) ≡ true
-high_side t p m k r n l h =
-    elim (cases_lt m k) [
-      | inl y ↦ before_trans p (prefix_at t m) (prefix_at t k) n (rising_at t m k r y h)
-      | inr y ↦ let e : k ≡ m = omega arith in rw e n
+-- what comes after the line at i comes after all up to there
+pub all_below : (t : Entries) (p : Bits) (i : ℕ) → rising t ≡ true → i < length t → before (prefix_at t i) p ≡ true → (k : ℕ) → k < i + 1 → before (prefix_at t k) p ≡ true
+all_below t p i r h l k y =
+    elim (cases_lt k i) [
+      | inl z ↦ before_trans (prefix_at t k) (prefix_at t i) p (rising_at t k i r z h) l
+      | inr z ↦ let e : k ≡ i = omega arith in rw e l
     ]
 
--- a rank tells whether and where a prefix stands
-
-pub ranked_stands : (t : Entries) (p : Bits) (r : ℕ) → Ranked t p r → (r ≡ 0 → ⊥) → Equal ≡ compared (prefix_at t (r - 1)) p → Stands t p (r - 1)
-ranked_stands t p r k n e = let w = k.within in record { within = omega arith; here = compared_equal (prefix_at t (r - 1)) p e }
-
-none_before : (t : Entries) (p : Bits) → Ranked t p 0 → Missing t p 0
-none_before t p k = record { within = k.within; below = λ i h. absurd (omega arith); above = k.after }
-
-pub ranked_none : (t : Entries) (p : Bits) (r : ℕ) → Ranked t p r → r ≡ 0 → Missing t p 0
-ranked_none t p r k e = let P : ℕ → Type 0 = λ n. Ranked t p n in none_before t p (subst P e k)
-
-pub ranked_missing : (t : Entries) (p : Bits) (r : ℕ) → rising t ≡ true → Ranked t p r → (r ≡ 0 → ⊥) → (compared (prefix_at t (r - 1)) p ≡ Equal → ⊥) → Missing t p r
-ranked_missing t p r up k n d =
+-- where the last line that comes no later than p has another prefix, p would stand after it
+pub missing_after : (t : Entries) (p : Bits) (i : ℕ) → rising t ≡ true → Ranked t p (i + 1) → (prefix_at t i ≡ p → ⊥) → Missing t p (i + 1)
+missing_after t p i r k d =
     let w = k.within in
-    let l : before (prefix_at t (r - 1)) p ≡ true = compared_before (prefix_at t (r - 1)) p (k.upto (r - 1) (omega arith)) d in
-    record {
-      within = w;
-      below = λ i h. elim (cases_lt i (r - 1)) [
-        | inl y ↦ before_trans (prefix_at t i) (prefix_at t (r - 1)) p (rising_at t i (r - 1) up y (omega arith)) l
-        | inr y ↦ let e : i ≡ r - 1 = omega arith in rw e l
-      ];
-      above = k.after;
-    }
+    let l : before (prefix_at t i) p ≡ true = (elim (cases_Bool (before (prefix_at t i) p)) [
+      | inl y ↦ y
+      | inr y ↦ absurd (d (before_total (prefix_at t i) p y (k.upto i (omega arith))))
+    ]) in
+    record { within = w; below = all_below t p i r (omega arith) l; above = k.after }
 
 -- a prefix that stands at i
 
@@ -238,10 +194,6 @@ networks_stay rs i r s =
     let h : i < length rs = omega (arith, s.within, length-map rs entry_of) in
     let e : network_of r ≡ get_or (map network_of rs) i 0 = ap (number 32) (sym s.here) ∙ sym (network_at rs i h) in
     map-set network_of rs i r ∙ ap (set (map network_of rs) i) e ∙ set-get_or (map network_of rs) i 0
-
--- the rank that the code has, of the routes that it lends
-pub ranked_at : (rs qs : List Route) (p : Bits) (n : ℕ) → qs ≡ rs → Ranked (map entry_of qs) p n → Ranked (map entry_of rs) p n
-ranked_at rs qs p n e k = let P : List Route → Type 0 = λ xs. Ranked (map entry_of xs) p n in subst P e k
 
 pub prefix_at_lem : (rs : List Route) (k : ℕ) (r : Route) → k < length rs → r ≡ get_or rs k r → prefix_at (map entry_of rs) k ≡ bits r.prefix
 prefix_at_lem rs k r h e = ap (λ (x : Entry). x.prefix) (entry_at_lem rs k r h e)

@@ -38,10 +38,8 @@ impl Table {
     pub fn get(&self, prefix: Prefix) -> Option<NextHop>
         ensures { result ≡ at (entries self.now) (bits prefix) }
     {
-        match self.search(prefix) {
-            Ok(i) => Some(self.routes[i].next_hop),
-            Err(_) => None,
-        }
+        let i = self.search(prefix).ok()?;
+        Some(self.routes[i].next_hop)
     }
 
     // Gets memory for so many routes more, which puts then need not get.
@@ -86,12 +84,8 @@ impl Table {
         ensures after { entries self.new ≡ without (bits prefix) (entries self.old) }
         ensures keeps { room self.old ≤ room self.new }
     {
-        match self.search(prefix) {
-            Ok(i) => {
-                self.networks.remove(i);
-                Some(self.routes.remove(i).next_hop)
-            }
-            Err(_) => None,
-        }
+        let i = self.search(prefix).ok()?;
+        self.networks.remove(i);
+        Some(self.routes.remove(i).next_hop)
     }
 }
