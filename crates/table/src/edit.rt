@@ -71,8 +71,8 @@ impl Table {
             Err(i) => {
                 self.reserve(1)?;
                 // with the memory at hand neither is refused
-                let _ = self.networks.insert(i, route.prefix.network());
-                let _ = self.routes.insert(i, route);
+                self.networks.insert(i, route.prefix.network())?;
+                self.routes.insert(i, route)?;
                 Ok(None)
             }
         }
