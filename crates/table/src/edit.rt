@@ -11,6 +11,7 @@ use std::alloc::{AllocError, Global};
 
 impl Table {
     // A table of no routes.
+    #[tactic(auto, unfolding(crate::specs::Tables::rising))]
     pub fn new(heap: Global) -> Table
         ensures { entries result ≡ [] }
     {
