@@ -8,6 +8,7 @@ use crate::route::{NextHop, Route};
 use crate::table::Table;
 use prefix::Prefix;
 use std::alloc::{AllocError, Global};
+use std::mem;
 
 impl Table {
     // A table of no routes.
@@ -65,9 +66,8 @@ impl Table {
     {
         match self.search(route.prefix) {
             Ok(i) => {
-                let old = self.routes[i].next_hop;
-                self.routes[i] = route;
-                Ok(Some(old))
+                let old = mem::replace(&mut self.routes[i], route);
+                Ok(Some(old.next_hop))
             }
             Err(i) => {
                 self.reserve(1)?;

@@ -1,7 +1,8 @@
-use Rattle.std.proofs.Common.{map, vec_items, sym, ap, ◌∙◌, subst, arith}
+use Rattle.std.proofs.Common.{map, Some, vec_items, sym, ap, ◌∙◌, subst, arith}
 use Rattle.std.specs.List.{insert}
 use Rattle.std.proofs.lemmas.Result.{err_from_is_err_and}
 use Rattle.prefix.specs.Model.{bits}
+use Rattle.table.specs.declared.route.Route.{Route}
 use Rattle.table.specs.Routes.{entry_of}
 use Rattle.table.specs.Search.{Missing}
 use Rattle.table.specs.Tables.{Entries, put}
@@ -13,13 +14,13 @@ use Rattle.table.proofs.table.Table.put.Goals as goal
 -- over a route with the same prefix
 
 pub invariant_of-self : goal.invariant_of-self
-invariant_of-self c = over_sound c.args.self.now c.args.route c.in-Ok.i c.in-Ok.ensures
+invariant_of-self c = rw c.replace-old.ensures.after (over_sound c.args.self.now c.args.route c.in-Ok.i c.in-Ok.ensures)
 
 pub returns-in-Ok-clause-value : goal.returns-in-Ok-clause-value
-returns-in-Ok-clause-value c = gives c.args.self.now _ _ c.in-Ok.ensures _ c.index.ensures
+returns-in-Ok-clause-value c = ap (λ (r : Route). Some r.next_hop) c.replace-old.ensures.value ∙ gives c.args.self.now _ _ c.in-Ok.ensures _ c.index_mut.ensures.value
 
 pub returns-in-Ok-clause-after : goal.returns-in-Ok-clause-after
-returns-in-Ok-clause-after c = over_is c.args.self.now c.args.route c.in-Ok.i c.in-Ok.ensures
+returns-in-Ok-clause-after c = rw c.replace-old.ensures.after (over_is c.args.self.now c.args.route c.in-Ok.i c.in-Ok.ensures)
 
 -- where none has it
 
