@@ -20,57 +20,45 @@ pub record Narrowed (t : Entries) (a key : Bits) : Type 0 where
   pub front : key ≡ take (length key) a
   pub clear : Clear t a (length key)
 
-module _ (t : Entries) (a : Bits) (c r : ℕ) (rank : Ranked t (take c a) r) where
+module _ (t : Entries) (a : Bits) (c r : ℕ) (short : c ≤ length a) (clear : Clear t a c) (rank : Ranked t (take c a) r) where
   -- a beginning of the address that comes after the lines of the rank is no line's prefix
-  none_at : (n : ℕ) → n ≤ c → n ≤ length a → ((k : ℕ) → k < r → before (prefix_at t k) (take n a) ≡ true) → seen t a n ≡ None
-  none_at n h l below =
-      seen_at t a n l
-      ∙ (lacking t (take n a) r (record {
-        within = rank.within;
-        below = below;
-        above = λ k i j. before_through (take n a) (take c a) (prefix_at t k) (begins_within n c a h) (rank.after k i j);
-      })).none
-
-  module _ (short : c ≤ length a) (clear : Clear t a c) where
-    highest_is : (o : Option Match) → Highest (seen t a) o → o ≡ find t a
-    highest_is o h = highest_top (seen t a) o (length a) h (λ n k. seen_far t a n k) ∙ sym (topmost t a)
-
-    -- at a length above m, where only those up to c are left to look at
-    above : (m : ℕ) → ((n : ℕ) → m < n → n ≤ c → seen t a n ≡ None) → (n : ℕ) → m < n → seen t a n ≡ None
-    above m h n k =
-        elim (cases_lt (length a) n) [
-          | inl y ↦ seen_far t a n y
-          | inr y ↦ elim (cases_lt c n) [
-            | inl z ↦ clear n z y
-            | inr z ↦ h n k z
-          ]
+  unseen : (n : ℕ) → (n ≤ c → (k : ℕ) → k < r → before (prefix_at t k) (take n a) ≡ true) → seen t a n ≡ None
+  unseen n below =
+      elim (cases_lt (length a) n) [
+        | inl y ↦ seen_far t a n y
+        | inr y ↦ elim (cases_lt c n) [
+          | inl z ↦ clear n z y
+          | inr z ↦ seen_at t a n y ∙ (lacking t (take n a) r (record {
+            within = rank.within;
+            below = below z;
+            above = λ k i j. before_through (take n a) (take c a) (prefix_at t k) (begins_within n c a z) (rank.after k i j);
+          })).none
         ]
+      ]
+
+  highest_is : (o : Option Match) → Highest (seen t a) o → o ≡ find t a
+  highest_is o h = highest_top (seen t a) o (length a) h (λ n k. seen_far t a n k) ∙ sym (topmost t a)
 
 -- where no line comes no later than the first bits of the address
 pub finds_none : (t : Entries) (a : Bits) (c : ℕ) → c ≤ length a → Clear t a c → Ranked t (take c a) 0 → None ≡ find t a
 unfolding Highest
-finds_none t a c short clear rank =
-    highest_is t a c 0 rank short clear None (λ n. elim (cases_lt (length a) n) [
-      | inl y ↦ seen_far t a n y
-      | inr y ↦ elim (cases_lt c n) [
-        | inl z ↦ clear n z y
-        | inr z ↦ none_at t a c 0 rank n z y (λ k q. absurd (omega arith))
-      ]
-    ])
+finds_none t a c short clear rank = highest_is t a c 0 short clear rank None (λ n. unseen t a c 0 short clear rank n (λ _ k q. absurd (omega arith)))
 
 -- where the line at i is the last that does not
 module _ (t : Entries) (a : Bits) (c i : ℕ) (up : rising t ≡ true) (short : c ≤ length a) (clear : Clear t a c) (rank : Ranked t (take c a) (i + 1)) where
+  after : (n : ℕ) → (n ≤ c → before (prefix_at t i) (take n a) ≡ true) → seen t a n ≡ None
+  after n b = let w = rank.within in unseen t a c (i + 1) short clear rank n (λ l. all_below t (take n a) i up (omega arith) (b l))
+
   pub finds_last : common (prefix_at t i) a ≡ length (prefix_at t i) → Some (record { len = length (prefix_at t i); next_hop = (entry_at t i).hop }) ≡ find t a
   unfolding Highest
   finds_last e =
       let w = rank.within in
       let b = begins_is (prefix_at t i) a (begins_common (prefix_at t i) a e) in
       let s = standing t (prefix_at t i) i up (record { within = omega arith; here = refl }) in
-      highest_is t a c (i + 1) rank short clear (Some (record { len = length (prefix_at t i); next_hop = (entry_at t i).hop })) (
+      highest_is t a c (i + 1) short clear rank (Some (record { len = length (prefix_at t i); next_hop = (entry_at t i).hop })) (
         seen_at t a (length (prefix_at t i)) b.0 ∙ ap (at t) (sym b.1) ∙ s.gives,
-        above t a c (i + 1) rank short clear (length (prefix_at t i)) (λ m k l. none_at t a c (i + 1) rank m l (omega arith) (all_below t (take m a) i up (omega arith) (
-            let z : before (take (length (prefix_at t i)) a) (take m a) ≡ true = begins_rise (length (prefix_at t i)) m a k (omega arith) in
-            rw (← b.1) at z))),
+        λ n k. after n (λ l.
+            let z : before (take (length (prefix_at t i)) a) (take n a) ≡ true = begins_rise (length (prefix_at t i)) n a k (omega arith) in rw (← b.1) at z),
       )
 
   pub narrows : (common (prefix_at t i) a ≡ length (prefix_at t i) → ⊥) → (common (prefix_at t i) a < c) × Clear t a (common (prefix_at t i) a)
@@ -80,7 +68,5 @@ module _ (t : Entries) (a : Bits) (c i : ℕ) (up : rising t ≡ true) (short : 
       let b : begins (prefix_at t i) a ≡ false = (elim (cases_Bool (begins (prefix_at t i) a)) [
         | inl y ↦ absurd (d (common_begins (prefix_at t i) a y))
         | inr y ↦ y
-      ]) in (
-        parts_below (prefix_at t i) a c short u b,
-        λ m k l. above t a c (i + 1) rank short clear (common (prefix_at t i) a) (λ n x y. none_at t a c (i + 1) rank n y (omega arith) (all_below t (take n a) i up (omega arith) (parts_before (prefix_at t i) a c n short u b x y))) m k,
-      )
+      ]) in
+      (parts_below (prefix_at t i) a c short u b, λ n k _. after n (parts_before (prefix_at t i) a c n short u b k))

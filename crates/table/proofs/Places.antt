@@ -2,7 +2,8 @@
 use Rattle.std.proofs.Common.{◌≡◌, ℕ, zero, suc, ◌+◌, ◌<◌, ◌≤◌, true, false, List, [], ◌∷◌, map, length, get_or, set, Some, None, sym, refl, ap, ◌∙◌, inl, inr, arith}
 use Rattle.std.specs.List.{insert as inserted, remove}
 use Rattle.std.proofs.lemmas.List.{get_or-map, length-map, map-append, map-set, set-get_or, take-map, drop-map}
-use Rattle.std.proofs.lemmas.Bool.{and_from, cases_Bool, cases_lt, both_ways, or_parts}
+use Rattle.std.proofs.lemmas.Bool.{and_from, cases_Bool, or_parts}
+use Rattle.std.proofs.lemmas.Bool.Decides.{nat_tests}
 use Rattle.prefix.specs.Bits.{Bits, same, before, number}
 use Rattle.prefix.specs.Model.{bits}
 use Rattle.prefix.proofs.Strings.{same_refl}
@@ -49,22 +50,11 @@ rising_at (e ∷ es) (suc i) (suc j) r h k = rising_at es i j (rising_parts e es
 
 -- what does not come before the line at m comes before none up to there
 pub low_side : (t : Entries) (p : Bits) (k m : ℕ) → rising t ≡ true → m < length t → before p (prefix_at t m) ≡ false → k ≤ m → before p (prefix_at t k) ≡ false
-low_side t p k m r h n l =
-    elim (cases_lt k m) [
-      | inl y ↦ elim (cases_Bool (before p (prefix_at t k))) [
-        | inl z ↦ absurd (both_ways (before p (prefix_at t m)) n (before_trans p (prefix_at t k) (prefix_at t m) z (rising_at t k m r y h)))
-        | inr z ↦ z
-      ]
-      | inr y ↦ let e : k ≡ m = omega arith in rw e n
-    ]
+low_side t p k m r h n l = grind (arith, nat_tests, before_trans p (prefix_at t k) (prefix_at t m), rising_at t k m r, λ (e : k ≡ m). ap (prefix_at t) e)
 
 -- what comes after the line at i comes after all up to there
 pub all_below : (t : Entries) (p : Bits) (i : ℕ) → rising t ≡ true → i < length t → before (prefix_at t i) p ≡ true → (k : ℕ) → k < i + 1 → before (prefix_at t k) p ≡ true
-all_below t p i r h l k y =
-    elim (cases_lt k i) [
-      | inl z ↦ before_trans (prefix_at t k) (prefix_at t i) p (rising_at t k i r z h) l
-      | inr z ↦ let e : k ≡ i = omega arith in rw e l
-    ]
+all_below t p i r h l k y = grind (arith, nat_tests, before_trans (prefix_at t k) (prefix_at t i) p, rising_at t k i r, λ (e : k ≡ i). ap (prefix_at t) e)
 
 -- where the last line that comes no later than p has another prefix, p would stand after it
 pub missing_after : (t : Entries) (p : Bits) (i : ℕ) → rising t ≡ true → Ranked t p (i + 1) → (prefix_at t i ≡ p → ⊥) → Missing t p (i + 1)
