@@ -1,5 +1,5 @@
 -- The last line that comes no later than a key: found among the networks, and then among the lines of the key's own network. Assumes nothing.
-use Rattle.std.proofs.Common.{◌≡◌, ℕ, zero, suc, ◌+◌, ◌-◌, ◌<◌, ◌≤◌, Bool, true, false, not, ◌||◌, eqb, leb, List, [], ◌∷◌, map, length, get_or, take, Some, None, Option, IsSomeAnd, IfSome, MatchOption, Iter, sym, ap, ◌∙◌, subst, inl, inr, arith}
+use Rattle.std.proofs.Common.{◌≡◌, ℕ, zero, suc, ◌+◌, ◌-◌, ◌<◌, ◌≤◌, Bool, true, false, not, ◌||◌, ◌&&◌, eqb, leb, ltb, List, [], ◌∷◌, map, length, get_or, take, Some, None, Option, IsSomeAnd, IfSome, MatchOption, Iter, sym, ap, ◌∙◌, subst, inl, inr, arith}
 use denote.Ref.{Bor}
 use denote.Param.Members.{Mut, Called}
 use Rattle.std.specs.Slice.Iter.{iter_steps_back}
@@ -71,18 +71,10 @@ upto p q = not (eqb (number 32 q) (number 32 p)) || leb (length q) (length p)
 
 pub networks_rise : (rs : List Route) → rising (map entry_of rs) ≡ true → IsNonDecreasing (map network_of rs)
 networks_rise rs up =
+    let q = λ (k : ℕ). prefix_at (map entry_of rs) k in
     IsNonDecreasingBy-from_default (λ n. n) (map network_of rs) 0 (λ i j le lt.
-        let m = length-map rs network_of in
-        let n = length-map rs entry_of in
-        let e = network_at rs i (omega arith) in
-        let f = network_at rs j (omega arith) in
-        elim (cases_lt i j) [
-          | inl y ↦
-              let b = rising_at (map entry_of rs) i j up y (omega arith) in
-              let k = by_number 32 (prefix_at (map entry_of rs) i) (prefix_at (map entry_of rs) j) (prefix_short rs i) (prefix_short rs j) in
-              grind (arith, nat_tests)
-          | inr y ↦ let s : i ≡ j = omega arith in omega (arith, ap (λ k. get_or (map network_of rs) k 0) s)
-        ])
+    let b : i < j → before (q i) (q j) ≡ true = λ h. rising_at (map entry_of rs) i j up h (omega (arith, length-map rs network_of, length-map rs entry_of)) in
+    grind (arith, nat_tests, b, length-map rs network_of, network_at rs i, network_at rs j, by_number 32 (q i) (q j) (prefix_short rs i) (prefix_short rs j), λ (e : i ≡ j). ap (get_or (map network_of rs)) e))
 
 module _ (rs : List Route) (key : Prefix) (up : rising (map entry_of rs) ≡ true) where
   abbrev N : ℕ
@@ -92,31 +84,23 @@ module _ (rs : List Route) (key : Prefix) (up : rising (map entry_of rs) ≡ tru
   q k = prefix_at (map entry_of rs) k
 
   module _ (end : ℕ) (within : end ≤ length rs) (point : IsPartitionPoint (λ n. leb n N ≡ true) (λ n. leb n N ≡ false) (map network_of rs) end) where
-    low : (k : ℕ) → k < end → number 32 (q k) ≤ N
-    low k h = let e = network_at rs k (omega arith) in let l = point.0 k 0 (omega arith) h in grind (arith, nat_tests)
+    by : (k : ℕ) → before (bits key) (q k) ≡ (ltb N (number 32 (q k)) || (eqb N (number 32 (q k)) && ltb (length (bits key)) (length (q k))))
+    by k = by_number 32 (bits key) (q k) (key_short key) (prefix_short rs k)
 
-    high : (k : ℕ) → end ≤ k → k < length rs → N < number 32 (q k)
-    high k h l = let e = network_at rs k l in let m = length-map rs network_of in let n = point.1 k 0 h (omega arith) in grind (arith, nat_tests)
-
-    passed : (k : ℕ) → k < end → upto (bits key) (q k) ≡ true → before (bits key) (q k) ≡ false
-    passed k h e = let l = low k h in let b = by_number 32 (bits key) (q k) (key_short key) (prefix_short rs k) in grind (arith, nat_tests)
-
-    failed : (k : ℕ) → k < end → upto (bits key) (q k) ≡ false → before (bits key) (q k) ≡ true
-    failed k h e = let l = low k h in let b = by_number 32 (bits key) (q k) (key_short key) (prefix_short rs k) in grind (arith, nat_tests)
+    -- the test decides below the end, and from there on all lines come after the key
+    below : (b : Bool) (k : ℕ) → k < end → ((d : Route) → upto (bits key) (bits (get_or (take end rs) k d).prefix) ≡ b) → before (bits key) (q k) ≡ not b
+    below b k h f =
+        let e = at_place (λ x. upto (bits key) x ≡ b) rs k (omega arith) (λ d. rw get_or-take at (f d)) in
+        grind (arith, nat_tests, by k, point.0 k 0 (omega arith) h, network_at rs k (omega arith))
 
     beyond : (k : ℕ) → end ≤ k → k < length rs → before (bits key) (q k) ≡ true
-    beyond k h l = let n = high k h l in let b = by_number 32 (bits key) (q k) (key_short key) (prefix_short rs k) in grind (arith, nat_tests)
-
-    tested : (b : Bool) (k : ℕ) → k < end → ((d : Route) → upto (bits key) (bits (get_or (take end rs) k d).prefix) ≡ b) → upto (bits key) (q k) ≡ b
-    tested b k h f = at_place (λ x. upto (bits key) x ≡ b) rs k (omega arith) (λ d. rw get_or-take at (f d))
+    beyond k h l = let n = point.1 k 0 h (omega (arith, length-map rs network_of)) in grind (arith, nat_tests, by k, network_at rs k l)
 
     later : (m : ℕ) → AllWithin (λ (x : Route). upto (bits key) (bits x.prefix) ≡ false) (take end rs) m (length (take end rs)) → (k : ℕ) → m ≤ k → k < length (map entry_of rs) → before (bits key) (q k) ≡ true
     later m h k le lt =
-        let n = length-map rs entry_of in
-        let l = length-take-le end rs within in
         elim (cases_lt k end) [
-          | inl y ↦ failed k y (tested false k y (λ d. h k d le (omega arith)))
-          | inr y ↦ beyond k y (omega arith)
+          | inl y ↦ below false k y (λ d. h k d le (omega (arith, length-take-le end rs within)))
+          | inr y ↦ beyond k y (omega (arith, length-map rs entry_of))
         ]
 
     pub ranks : (r : Option ℕ) → IsLast (λ (x : Route). upto (bits key) (bits x.prefix)) (take end rs) r
@@ -124,10 +108,9 @@ module _ (rs : List Route) (key : Prefix) (up : rising (map entry_of rs) ≡ tru
     ranks None h = record { within = omega arith; upto = λ k lt. absurd (omega arith); after = later 0 h }
     ranks (Some i) h =
         let n = length-map rs entry_of in
-        let l = length-take-le end rs within in
-        let lt : i < end = omega (arith, h.0) in
+        let lt : i < end = omega (arith, h.0, length-take-le end rs within) in
         record {
           within = omega arith;
-          upto = λ k le. low_side (map entry_of rs) (bits key) k i up (omega arith) (passed i lt (tested true i lt h.1)) (omega arith);
+          upto = λ k le. low_side (map entry_of rs) (bits key) k i up (omega arith) (below true i lt h.1) (omega arith);
           after = later (i + 1) h.2;
         }

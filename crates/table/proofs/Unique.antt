@@ -28,8 +28,22 @@ module _ {X : Type 0} {is before : X → X → Bool} {among heads : X → List X
 
   first_same : (x y : X) (xs ys : List X) → heads x xs ≡ true → heads y ys ≡ true → Same (x ∷ xs) (y ∷ ys) → x ≡ y
   first_same x y xs ys h k e =
-      grind (arith, nat_tests, e x, e y, among_first x xs, among_first y ys, l.among_more x y ys, l.among_more y x xs, l.is_eq x y, l.is_eq y x,
-      heads_among x y xs h, heads_among y x ys k, l.trans x y x, l.irrefl x)
+      grind (
+        arith,
+        nat_tests,
+        e x,
+        e y,
+        among_first x xs,
+        among_first y ys,
+        l.among_more x y ys,
+        l.among_more y x xs,
+        l.is_eq x y,
+        l.is_eq y x,
+        heads_among x y xs h,
+        heads_among y x ys k,
+        l.trans x y x,
+        l.irrefl x,
+      )
 
   absent : (x z : X) (xs : List X) → heads x xs ≡ true → is z x ≡ true → among z xs ≡ false
   absent x z xs h i = grind (arith, nat_tests, heads_among x z xs h, l.is_eq z x i, l.irrefl x)

@@ -19,6 +19,6 @@ returns c =
     let up = subst IsNonDecreasing (sym ns) (networks_rise rs t.ordered) in
     let point = IsPartitionPoint-from_clause (λ n. leb n (number 32 p)) _ _ c.partition_point-end.ensures.partitioned (IsPartitionedBy-leb (λ n. n) _ _ up) (λ a r q k. search (rules, tests)) in
     let last = last_from_rposition (λ (r : Route). upto p (bits r.prefix)) (λ x b q k. search (rules, tests)) _ _ c.iter.ensures.runs_back c.rposition.ensures.bound c.rposition.ensures.runs in
-    ranks rs c.args.key t.ordered end (omega (arith, ap length ns, length-map rs network_of)) 
+    ranks rs c.args.key t.ordered end (omega (arith, ap length ns, length-map rs network_of))
     (subst (λ (xs : List ℕ). IsPartitionPoint (λ n. leb n (number 32 p) ≡ true) (λ n. leb n (number 32 p) ≡ false) xs end) ns point) _
     (subst (λ (xs : List Route). IsLast (λ (r : Route). upto p (bits r.prefix)) xs c.rposition.result) (c.iter.ensures.rest ∙ ap (take end) c.deref.ensures.value) last)

@@ -13,6 +13,6 @@ returns-in-Some-2 c =
     let t = c.args.self.now in
     let r = c.index.result.now in
     missing_after (entries t) (bits c.args.prefix) c.in-Some.i t.ordered c.in-Some.ensures (λ e.
-        let w = c.in-Some.ensures.within in
-        let f = faithful r.prefix c.args.prefix (sym (ap (λ (x : Entry). x.prefix) (entry_at_lem t.routes.items c.in-Some.i r (place t c.in-Some.i (omega arith)) c.index.ensures)) ∙ e) in
-        grind (arith, nat_tests))
+    let w = c.in-Some.ensures.within in
+    let f = faithful r.prefix c.args.prefix (sym (ap (λ (x : Entry). x.prefix) (entry_at_lem t.routes.items c.in-Some.i r (place t c.in-Some.i (omega arith)) c.index.ensures)) ∙ e) in
+    grind (arith, nat_tests))
