@@ -1,8 +1,9 @@
 -- Tables with the same lines, in any order. Assumes nothing.
-use Rattle.std.proofs.Common.{◌≡◌, ℕ, zero, suc, ◌+◌, ◌≤◌, Bool, true, false, ◌&&◌, ◌||◌, eqb, ltb, ◌⊎◌, [], ◌∷◌, length, Some, None, sum_by, Option, sym, refl, ap, ◌∙◌, ap₂, inl, inr, arith}
-use Rattle.std.proofs.lemmas.List.Sorted.{sum_by-IsPermutation}
+use Rattle.std.proofs.Common.{◌≡◌, ℕ, zero, suc, ◌+◌, ◌≤◌, Bool, true, if◌then◌else◌, ◌&&◌, eqb, ltb, [], ◌∷◌, length, Some, None, Option, sym, refl, ap, ◌∙◌, ap₂, inl, inr, arith}
+use Rattle.std.specs.List.{list_any, count_by}
+use Rattle.std.proofs.lemmas.List.Sorted.{sum_by-IsPermutation, list_any-IsPermutation}
 use Rattle.std.proofs.lemmas.List.Sums.{sum_by-cons}
-use Rattle.std.proofs.lemmas.Bool.{cond-true, cond-false, cases_Bool, and_parts, and_from, or_cases, or_left, or_right, eqb-true, eq-eqb, both_ways}
+use Rattle.std.proofs.lemmas.Bool.{cases_Bool, and_parts, and_from, or_left, or_right, eqb-true, eq-eqb, both_ways}
 use Rattle.std.proofs.lemmas.Bool.Decides.{nat_tests}
 use Rattle.prefix.specs.Bits.{Bits, same, before}
 use Rattle.prefix.proofs.Strings.{same_eq, same_refl}
@@ -29,11 +30,7 @@ is_refl e = and_from _ _ (same_refl e.prefix) (eq-eqb e.hop e.hop refl)
 pub holds_has : (e : Entry) (t : Entries) → holds e t ≡ true → has e.prefix t ≡ true
 unfolding holds has
 holds_has e [] h = h
-holds_has e (f ∷ fs) h =
-    elim (or_cases (is e f) (holds e fs) h) [
-      | inl y ↦ or_left _ _ (and_parts (same e.prefix f.prefix) (eqb e.hop f.hop) y).0
-      | inr y ↦ or_right _ _ (holds_has e fs y)
-    ]
+holds_has e (f ∷ fs) h = grind (arith, nat_tests, holds_has e fs)
 
 -- what a test picks from tables with the same lines
 
@@ -43,46 +40,36 @@ pub record Picked (f : Bits → Bool) (t : Entries) (x : ℕ) : Type 0 where
   pub passes : f line.prefix ≡ true
   pub gives : line.hop ≡ x
 
-module _ (f : Bits → Bool) (single : Single f) where
+module _ (f : Bits → Bool) where
   pub picked : (t : Entries) (x : ℕ) → pick f t ≡ Some x → Picked f t x
   unfolding pick holds
-  picked [] x h = let z : ◌≡◌ {A = ℕ} 0 1 = cc in absurd (omega arith)
+  picked [] x h = absurd (cc)
   picked (e ∷ es) x h =
       elim (cases_Bool (f e.prefix)) [
-        | inl y ↦
-            let i : Some e.hop ≡ Some x = sym (cond-true (f e.prefix) (Some e.hop) (pick f es) y) ∙ h in
-            record { line = e; held = or_left _ _ (is_refl e); passes = y; gives = cc }
-        | inr y ↦
-            let p = picked es x (sym (cond-false (f e.prefix) (Some e.hop) (pick f es) y) ∙ h) in
-            record { line = p.line; held = or_right _ _ p.held; passes = p.passes; gives = p.gives }
+        | inl y ↦ record { line = e; held = or_left _ _ (is_refl e); passes = y; gives = grind (arith, nat_tests) }
+        | inr y ↦ let p = picked es x (rw y at h) in record { line = p.line; held = or_right _ _ p.held; passes = p.passes; gives = p.gives }
       ]
 
-  pub held_picks : (e : Entry) (t : Entries) → distinct t ≡ true → holds e t ≡ true → f e.prefix ≡ true → pick f t ≡ Some e.hop
-  unfolding pick holds
-  held_picks e [] d h y = absurd (both_ways (holds e []) refl h)
-  held_picks e (g ∷ gs) d h y =
-      let s = distinct_parts g gs d in
-      elim (or_cases (is e g) (holds e gs) h) [
-        | inl k ↦ let i = is_eq e g k in cond-true _ (Some g.hop) (pick f gs) (rw i at y) ∙ ap (λ (l : Entry). Some l.hop) (sym i)
-        | inr k ↦ cond-false _ (Some g.hop) (pick f gs) (off (cases_Bool (f g.prefix)) s k) ∙ held_picks e gs s.1 k y
-      ]
-    where
-      off : (f g.prefix ≡ true) ⊎ (f g.prefix ≡ false) → (has g.prefix gs ≡ false) × (distinct gs ≡ true) → holds e gs ≡ true → f g.prefix ≡ false
-      off (inl z) s k = absurd (both_ways (has g.prefix gs) s.0 (rw (single g.prefix e.prefix z y) (holds_has e gs k)))
-      off (inr z) s k = z
+  module _ (single : Single f) where
+    pub held_picks : (e : Entry) (t : Entries) → distinct t ≡ true → holds e t ≡ true → f e.prefix ≡ true → pick f t ≡ Some e.hop
+    unfolding pick holds
+    held_picks e [] d h y = absurd (both_ways (holds e []) refl h)
+    held_picks e (g ∷ gs) d h y =
+        let s = distinct_parts g gs d in
+        grind (arith, nat_tests, held_picks e gs s.1, s.0, is_eq e g, holds_has e gs, single g.prefix e.prefix)
 
-  by_ways : (o p : Option ℕ) → ((x : ℕ) → o ≡ Some x → p ≡ Some x) → ((x : ℕ) → p ≡ Some x → o ≡ Some x) → o ≡ p
-  by_ways None None g h = refl
-  by_ways None (Some x) g h = h x refl
-  by_ways (Some x) p g h = sym (g x refl)
+    pub pick_alike : (t u : Entries) → distinct t ≡ true → distinct u ≡ true → SameLines t u → pick f t ≡ pick f u
+    pick_alike t u d e h =
+        by_ways (pick f t) (pick f u)
+        (λ x y. let p = picked t x y in held_picks p.line u e (sym (h p.line) ∙ p.held) p.passes ∙ ap Some p.gives)
+        (λ x y. let p = picked u x y in held_picks p.line t d (h p.line ∙ p.held) p.passes ∙ ap Some p.gives)
+      where
+        by_ways : (o p : Option ℕ) → ((x : ℕ) → o ≡ Some x → p ≡ Some x) → ((x : ℕ) → p ≡ Some x → o ≡ Some x) → o ≡ p
+        by_ways None None g h = refl
+        by_ways None (Some x) g h = h x refl
+        by_ways (Some x) p g h = sym (g x refl)
 
-  pub pick_alike : (t u : Entries) → distinct t ≡ true → distinct u ≡ true → SameLines t u → pick f t ≡ pick f u
-  pick_alike t u d e h =
-      by_ways (pick f t) (pick f u)
-      (λ x y. let p = picked t x y in held_picks p.line u e (sym (h p.line) ∙ p.held) p.passes ∙ ap Some p.gives)
-      (λ x y. let p = picked u x y in held_picks p.line t d (h p.line ∙ p.held) p.passes ∙ ap Some p.gives)
-
-pub top_alike : (f g : ℕ → Option ℕ) (w : ℕ) → ((n : ℕ) → f n ≡ g n) → top f w ≡ top g w
+top_alike : (f g : ℕ → Option ℕ) (w : ℕ) → ((n : ℕ) → f n ≡ g n) → top f w ≡ top g w
 unfolding top
 top_alike f g zero h = rw (h zero)
 top_alike f g (suc w) h = rw (h (suc w), top_alike f g w h)
@@ -94,60 +81,43 @@ find_alike t u d e h a =
 pub lines_decide_lem : LinesDecide
 lines_decide_lem t u d e h = (find_alike t u d e h, λ w a _. ap hop_of (find_alike t u d e h a))
 
--- lines counted by a test, which no shuffle changes
+-- no shuffle changes which lines there are, and how often a prefix stands
 
-abbrev bit : Bool → ℕ
-bit true = 1
-bit false = 0
-
-bit_pos : (b c : Bool) (n : ℕ) → c ≡ ltb 0 n → (b || c) ≡ ltb 0 (bit b + n)
-bit_pos true c n h = grind (arith, nat_tests)
-bit_pos false c n h = grind (arith, nat_tests)
-
-holds_count : (e : Entry) (t : Entries) → holds e t ≡ ltb 0 (sum_by (λ f. bit (is e f)) t)
+holds_any : (e : Entry) (t : Entries) → holds e t ≡ list_any (is e) t
 unfolding holds
-holds_count e [] = refl
-holds_count e (f ∷ fs) =
-    bit_pos (is e f) (holds e fs) (sum_by (λ g. bit (is e g)) fs) (holds_count e fs) ∙ ap (ltb 0) (sym (sum_by-cons (λ g. bit (is e g)) f fs))
+holds_any e [] = refl
+holds_any e (f ∷ fs) = rw (holds_any e fs)
 
--- how often a prefix stands
 abbrev times : Bits → Entries → ℕ
-times p t = sum_by (λ e. bit (same p e.prefix)) t
+times p t = count_by (λ e. same p e.prefix) t
 
-times_cons : (p : Bits) (e : Entry) (es : Entries) → times p (e ∷ es) ≡ bit (same p e.prefix) + times p es
-times_cons p e es = sum_by-cons (λ f. bit (same p f.prefix)) e es
+times_cons : (p : Bits) (e : Entry) (es : Entries) → times p (e ∷ es) ≡ (if same p e.prefix then 1 else 0) + times p es
+times_cons p e es = sum_by-cons (λ f. if same p f.prefix then 1 else 0) e es
 
 has_times : (p : Bits) (t : Entries) → has p t ≡ ltb 0 (times p t)
 unfolding has
 has_times p [] = refl
-has_times p (e ∷ es) = bit_pos (same p e.prefix) (has p es) (times p es) (has_times p es) ∙ ap (ltb 0) (sym (times_cons p e es))
-
-at_most_one : (b c : Bool) (n m : ℕ) → m ≡ bit b + n → c ≡ ltb 0 n → (b ≡ true → c ≡ false) → n ≤ 1 → m ≤ 1
-at_most_one true c n m e h k l = let z = sym h ∙ k refl in grind (arith, nat_tests)
-at_most_one false c n m e h k l = omega arith
+has_times p (e ∷ es) = grind (arith, nat_tests, has_times p es, times_cons p e es)
 
 distinct_once : (t : Entries) → distinct t ≡ true → (p : Bits) → times p t ≤ 1
 distinct_once [] d p = omega arith
 distinct_once (e ∷ es) d p =
     let s = distinct_parts e es d in
-    at_most_one (same p e.prefix) (has p es) (times p es) _ (times_cons p e es) (has_times p es) (λ y. rw (same_eq p e.prefix y) s.0) (distinct_once es s.1 p)
-
-none_left : (b c : Bool) (n m : ℕ) → m ≡ bit b + n → b ≡ true → c ≡ ltb 0 n → m ≤ 1 → c ≡ false
-none_left true c n m e k h l = h ∙ grind (arith, nat_tests)
-none_left false c n m e k h l = absurd (both_ways false refl k)
+    grind (arith, nat_tests, distinct_once es s.1 p, s.0, has_times p es, times_cons p e es, same_eq p e.prefix)
 
 once_distinct : (t : Entries) → ((p : Bits) → times p t ≤ 1) → distinct t ≡ true
 unfolding distinct
 once_distinct [] h = refl
 once_distinct (e ∷ es) h =
     distinct_from e es
-    (none_left (same e.prefix e.prefix) (has e.prefix es) (times e.prefix es) _ (times_cons e.prefix e es) (same_refl e.prefix) (has_times e.prefix es) (h e.prefix))
-    (once_distinct es (λ p. let z = h p in let c = times_cons p e es in omega arith))
+    (grind (arith, nat_tests, h e.prefix, times_cons e.prefix e es, has_times e.prefix es, same_refl e.prefix))
+    (once_distinct es (λ p. omega (arith, h p, times_cons p e es)))
 
 pub order_free : OrderFree
 order_free t u d s a =
-    let e : distinct u ≡ true = once_distinct u (λ p. let c : times p u ≡ times p t = sum_by-IsPermutation (λ l. bit (same p l.prefix)) t u s in let k = distinct_once t d p in rw c k) in
-    find_alike t u d e (λ l. holds_count l t ∙ ap (ltb 0) (sym (sum_by-IsPermutation (λ f. bit (is l f)) t u s)) ∙ sym (holds_count l u)) a
+    find_alike t u d
+    (once_distinct u (λ p. omega (arith, sum_by-IsPermutation (λ e. if same p e.prefix then 1 else 0) t u s, distinct_once t d p)))
+    (λ e. holds_any e t ∙ list_any-IsPermutation (is e) t u s ∙ sym (holds_any e u)) a
 
 -- one table only has these lines and rises
 

@@ -9,9 +9,6 @@ use Rattle.table.proofs.Picks.{sits_single}
 use Rattle.table.proofs.Tops.{Highest, seen_far, find_highest, highest_top, topmost}
 use Rattle.table.proofs.Alike.{held_picks, picked}
 
-some_none : (x : ℕ) → ◌≡◌ {A = Option ℕ} (Some x) None → ⊥
-some_none x e = let z : ◌≡◌ {A = ℕ} 0 1 = cc in omega arith
-
 module _ (t : Entries) (a : Bits) (d : distinct t ≡ true) where
   -- a line with which the address begins is seen at its length
   held_seen : (e : Entry) → holds e t ≡ true → begins e.prefix a ≡ true → seen t a (length e.prefix) ≡ Some e.hop
@@ -21,7 +18,7 @@ module _ (t : Entries) (a : Bits) (d : distinct t ≡ true) where
   -- and what is seen is such a line
   seen_line : (n x : ℕ) → seen t a n ≡ Some x → (e : Entry) × (holds e t ≡ true) × (begins e.prefix a ≡ true) × (length e.prefix ≡ n) × (e.hop ≡ x)
   seen_line n x h =
-      let p = picked (λ q. sits q a n) (sits_single a n) t x h in
+      let p = picked (λ q. sits q a n) t x h in
       let s = and_parts (begins p.line.prefix a) (eqb (length p.line.prefix) n) p.passes in
       (p.line, p.held, s.0, eqb-true _ _ s.1, p.gives)
 
@@ -38,7 +35,7 @@ module _ (t : Entries) (a : Bits) (d : distinct t ≡ true) where
 
   found : (m : Match) (o : Option Match) → o ≡ Some m → Highest (seen t a) o → (e : Entry) × LongestLine t a e × (matched e ≡ m)
   unfolding Highest
-  found m None e h = let z : ◌≡◌ {A = ℕ} 0 1 = cc in absurd (omega arith)
+  found m None e h = absurd (cc)
   found m (Some k) e h =
       let same : k ≡ m = cc in
       let f = seen_line k.len k.next_hop h.0 in (
@@ -47,7 +44,7 @@ module _ (t : Entries) (a : Bits) (d : distinct t ≡ true) where
           held = f.1;
           begun = f.2;
           longest = λ g i b. elim (cases_lt (length f.0.prefix) (length g.prefix)) [
-            | inl y ↦ absurd (some_none g.hop (sym (held_seen g i b) ∙ h.1 (length g.prefix) (omega (arith, f.3))))
+            | inl y ↦ absurd (cc (held_seen g i b, h.1 (length g.prefix) (omega (arith, f.3))))
             | inr y ↦ y
           ];
         },
@@ -58,10 +55,10 @@ module _ (t : Entries) (a : Bits) (d : distinct t ≡ true) where
   unfolding Highest
   none None e h f i =
       elim (cases_Bool (begins f.prefix a)) [
-        | inl y ↦ absurd (some_none f.hop (sym (held_seen f i y) ∙ h (length f.prefix)))
+        | inl y ↦ absurd (cc (held_seen f i y, h (length f.prefix)))
         | inr y ↦ y
       ]
-  none (Some k) e h f i = let z : ◌≡◌ {A = ℕ} 0 1 = cc in absurd (omega arith)
+  none (Some k) e h f i = absurd (cc)
 
 pub longest : Longest
 longest t a d = (finds t a d, (λ m e. found t a d m (find t a) e (find_highest t a)), λ e. none t a d (find t a) e (find_highest t a))

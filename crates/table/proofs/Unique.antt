@@ -1,6 +1,7 @@
 -- Of the lists with the same members one only is in a strict order. Assumes nothing.
-use Rattle.std.proofs.Common.{◌≡◌, Bool, true, false, ◌&&◌, ◌||◌, List, [], ◌∷◌, sym, refl, ◌∙◌, subst, ap₂, inl, inr}
-use Rattle.std.proofs.lemmas.Bool.{cases_Bool, and_parts, or_cases, or_left, both_ways}
+use Rattle.std.proofs.Common.{◌≡◌, Bool, true, false, ◌&&◌, ◌||◌, List, [], ◌∷◌, sym, refl, ◌∙◌, subst, ap₂, arith}
+use Rattle.std.proofs.lemmas.Bool.{and_parts, both_ways}
+use Rattle.std.proofs.lemmas.Bool.Decides.{nat_tests}
 
 -- tests of things and of lists of them: whether two are the same, whether one comes before another; whether one is in a list, whether it comes
 -- before all of a list, and whether each of a list comes before all that follow it
@@ -19,40 +20,36 @@ module _ {X : Type 0} {is before : X → X → Bool} {among heads : X → List X
   Same xs ys = (z : X) → among z xs ≡ among z ys
 
   among_first : (x : X) (xs : List X) → among x (x ∷ xs) ≡ true
-  among_first x xs = l.among_more x x xs ∙ or_left (is x x) (among x xs) (l.is_refl x)
+  among_first x xs = grind (arith, nat_tests, l.among_more x x xs, l.is_refl x)
 
   heads_among : (x y : X) (xs : List X) → heads x xs ≡ true → among y xs ≡ true → before x y ≡ true
   heads_among x y [] h k = absurd (both_ways (among y []) (l.among_none y) k)
-  heads_among x y (z ∷ zs) h k =
-      let s = and_parts (before x z) (heads x zs) (sym (l.heads_more x z zs) ∙ h) in
-      elim (or_cases (is y z) (among y zs) (sym (l.among_more y z zs) ∙ k)) [
-        | inl e ↦ rw (l.is_eq y z e) s.0
-        | inr m ↦ heads_among x y zs s.1 m
-      ]
+  heads_among x y (z ∷ zs) h k = grind (arith, nat_tests, heads_among x y zs, l.heads_more x z zs, l.among_more y z zs, l.is_eq y z)
 
   first_same : (x y : X) (xs ys : List X) → heads x xs ≡ true → heads y ys ≡ true → Same (x ∷ xs) (y ∷ ys) → x ≡ y
   first_same x y xs ys h k e =
-      elim (or_cases (is x y) (among x ys) (sym (l.among_more x y ys) ∙ sym (e x) ∙ among_first x xs)) [
-        | inl i ↦ l.is_eq x y i
-        | inr m ↦ elim (or_cases (is y x) (among y xs) (sym (l.among_more y x xs) ∙ e y ∙ among_first y ys)) [
-          | inl i ↦ sym (l.is_eq y x i)
-          | inr n ↦ absurd (both_ways (before x x) (l.irrefl x) (l.trans x y x (heads_among x y xs h n) (heads_among y x ys k m)))
-        ]
-      ]
+      grind (
+        arith,
+        nat_tests,
+        e x,
+        e y,
+        among_first x xs,
+        among_first y ys,
+        l.among_more x y ys,
+        l.among_more y x xs,
+        l.is_eq x y,
+        l.is_eq y x,
+        heads_among x y xs h,
+        heads_among y x ys k,
+        l.trans x y x,
+        l.irrefl x,
+      )
 
   absent : (x z : X) (xs : List X) → heads x xs ≡ true → is z x ≡ true → among z xs ≡ false
-  absent x z xs h i =
-      elim (cases_Bool (among z xs)) [
-        | inl m ↦ absurd (both_ways (before x x) (l.irrefl x) (heads_among x x xs h (rw (l.is_eq z x i) at m)))
-        | inr m ↦ m
-      ]
+  absent x z xs h i = grind (arith, nat_tests, heads_among x z xs h, l.is_eq z x i, l.irrefl x)
 
   rest_same : (x : X) (xs ys : List X) → heads x xs ≡ true → heads x ys ≡ true → Same (x ∷ xs) (x ∷ ys) → Same xs ys
-  rest_same x xs ys h k e z =
-      elim (cases_Bool (is z x)) [
-        | inl i ↦ absent x z xs h i ∙ sym (absent x z ys k i)
-        | inr i ↦ let m = sym (l.among_more z x xs) ∙ e z ∙ l.among_more z x ys in rw i at m
-      ]
+  rest_same x xs ys h k e z = grind (arith, nat_tests, absent x z xs h, absent x z ys k, l.among_more z x xs, l.among_more z x ys, e z)
 
   pub unique : (xs ys : List X) → ordered xs ≡ true → ordered ys ≡ true → Same xs ys → xs ≡ ys
   unique [] [] h k e = refl
@@ -62,6 +59,6 @@ module _ {X : Type 0} {is before : X → X → Bool} {among heads : X → List X
       let a = and_parts (heads x xs) (ordered xs) (sym (l.ordered_more x xs) ∙ h) in
       let b = and_parts (heads y ys) (ordered ys) (sym (l.ordered_more y ys) ∙ k) in
       let i = first_same x y xs ys a.0 b.0 e in
-      let P : X → Type 0 = λ z. Same (x ∷ xs) (z ∷ ys) in
-      let Q : X → Type 0 = λ z. heads z ys ≡ true in
-      ap₂ (λ (z : X) (zs : List X). z ∷ zs) i (unique xs ys a.1 b.1 (rest_same x xs ys a.0 (subst Q (sym i) b.0) (subst P (sym i) e)))
+      let P : X → Type 0 = λ z. (heads z ys ≡ true) × Same (x ∷ xs) (z ∷ ys) in
+      let p = subst P (sym i) (b.0, e) in
+      ap₂ (λ (z : X) (zs : List X). z ∷ zs) i (unique xs ys a.1 b.1 (rest_same x xs ys a.0 p.0 p.1))

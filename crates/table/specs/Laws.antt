@@ -1,5 +1,5 @@
 -- What holds of tables and look-ups, for any width; each statement is a theorem. Assumes nothing.
-use Rattle.std.specs.Prelude.{◌≡◌, ℕ, suc, ◌≤◌, true, false, cond, length, take, Some, None}
+use Rattle.std.specs.Prelude.{◌≡◌, ℕ, suc, ◌≤◌, true, false, if◌then◌else◌, length, take, Some, None}
 use Rattle.std.specs.List.Sorted.{IsPermutation}
 use Rattle.prefix.specs.Bits.{Bits, begins, same}
 use Rattle.table.specs.declared.lookups.Match.{Match}
@@ -29,27 +29,27 @@ SeenAt = (t : Entries) (a : Bits) (n : ℕ) → n ≤ length a → seen t a n �
 
 -- a put changes what an address sees at one length only: the line's, if it begins with the line
 abbrev pub SeenPut : Type 0
-SeenPut = (e : Entry) (t : Entries) (a : Bits) (n : ℕ) → seen (put e t) a n ≡ cond (sits e.prefix a n) (Some e.hop) (seen t a n)
+SeenPut = (e : Entry) (t : Entries) (a : Bits) (n : ℕ) → seen (put e t) a n ≡ (if sits e.prefix a n then Some e.hop else seen t a n)
 
 -- and so does a drop
 abbrev pub SeenWithout : Type 0
-SeenWithout = (p : Bits) (t : Entries) (a : Bits) (n : ℕ) → seen (without p t) a n ≡ cond (sits p a n) None (seen t a n)
+SeenWithout = (p : Bits) (t : Entries) (a : Bits) (n : ℕ) → seen (without p t) a n ≡ (if sits p a n then None else seen t a n)
 
 -- a put changes what stands at its own prefix, and at no other
 abbrev pub AtPut : Type 0
-AtPut = (e : Entry) (t : Entries) (p : Bits) → at (put e t) p ≡ cond (same p e.prefix) (Some e.hop) (at t p)
+AtPut = (e : Entry) (t : Entries) (p : Bits) → at (put e t) p ≡ (if same p e.prefix then Some e.hop else at t p)
 
 -- and so does a drop
 abbrev pub AtWithout : Type 0
-AtWithout = (q : Bits) (t : Entries) (p : Bits) → at (without q t) p ≡ cond (same p q) None (at t p)
+AtWithout = (q : Bits) (t : Entries) (p : Bits) → at (without q t) p ≡ (if same p q then None else at t p)
 
 -- a put makes a table one line longer if the prefix is new
 abbrev pub CountPut : Type 0
-CountPut = (e : Entry) (t : Entries) → distinct t ≡ true → length (put e t) ≡ cond (has e.prefix t) (length t) (suc (length t))
+CountPut = (e : Entry) (t : Entries) → distinct t ≡ true → length (put e t) ≡ (if has e.prefix t then length t else suc (length t))
 
 -- a drop makes it one line shorter if the prefix is there
 abbrev pub CountWithout : Type 0
-CountWithout = (p : Bits) (t : Entries) → distinct t ≡ true → length t ≡ cond (has p t) (suc (length (without p t))) (length (without p t))
+CountWithout = (p : Bits) (t : Entries) → distinct t ≡ true → length t ≡ (if has p t then suc (length (without p t)) else length (without p t))
 
 -- sound tables stay sound
 abbrev pub StaysSound : Type 0

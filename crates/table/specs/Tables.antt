@@ -1,5 +1,5 @@
 -- Tables, and where they send an address, for any width of addresses. Assumes nothing.
-use Rattle.std.specs.Prelude.{◌≡◌, ℕ, zero, suc, Bool, true, false, cond, not, ◌&&◌, ◌||◌, List, [], ◌∷◌, length, Some, None, Option, ◌==◌, nat_le}
+use Rattle.std.specs.Prelude.{◌≡◌, ℕ, zero, suc, Bool, true, false, if◌then◌else◌, not, ◌&&◌, ◌||◌, List, [], ◌∷◌, length, Some, None, Option, ◌==◌, nat_le}
 use Rattle.prefix.specs.Bits.{Bits, Address, begins, same, before}
 use Rattle.table.specs.declared.lookups.Match.{Match}
 
@@ -22,12 +22,12 @@ matched e = record { len = length e.prefix; next_hop = e.hop }
 -- the longer of a line that fits and of what the lines after it gave; of two as long (a sound table has no such two) the earlier line
 abbrev pub longer : Entry → Option Match → Option Match
 longer e None = Some (matched e)
-longer e (Some m) = cond (nat_le m.len (length e.prefix)) (Some (matched e)) (Some m)
+longer e (Some m) = if nat_le m.len (length e.prefix) then Some (matched e) else Some m
 
 -- longest-prefix match: the length and the next hop of the longest line with which the address begins, or none
 unfoldable pub find : Entries → Bits → Option Match
 find [] a = None
-find (e ∷ es) a = cond (begins e.prefix a) (longer e (find es a)) (find es a)
+find (e ∷ es) a = if begins e.prefix a then longer e (find es a) else find es a
 
 -- where that sends the address; with no line it is dropped
 abbrev pub hop_of : Option Match → ℕ
@@ -72,7 +72,7 @@ sound w t = distinct t && fits w t
 -- the next hop of the first line whose prefix passes a test
 unfoldable pub pick : (Bits → Bool) → Entries → Option ℕ
 pick f [] = None
-pick f (e ∷ es) = cond (f e.prefix) (Some e.hop) (pick f es)
+pick f (e ∷ es) = if f e.prefix then Some e.hop else pick f es
 
 -- the next hop that stands at a prefix
 abbrev pub at : Entries → Bits → Option ℕ
@@ -81,12 +81,12 @@ at t p = pick (same p) t
 -- a table without the line of a prefix
 unfoldable pub without : Bits → Entries → Entries
 without p [] = []
-without p (e ∷ es) = cond (same p e.prefix) (without p es) (e ∷ without p es)
+without p (e ∷ es) = if same p e.prefix then without p es else e ∷ without p es
 
 -- a line put before the first that comes after it
 unfoldable pub insert : Entry → Entries → Entries
 insert e [] = e ∷ []
-insert e (f ∷ fs) = cond (before e.prefix f.prefix) (e ∷ f ∷ fs) (f ∷ insert e fs)
+insert e (f ∷ fs) = if before e.prefix f.prefix then e ∷ f ∷ fs else f ∷ insert e fs
 
 -- a line put into a table, in place of one with the same prefix
 abbrev pub put : Entry → Entries → Entries

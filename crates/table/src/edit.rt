@@ -8,9 +8,11 @@ use crate::route::{NextHop, Route};
 use crate::table::Table;
 use prefix::Prefix;
 use std::alloc::{AllocError, Global};
+use std::mem;
 
 impl Table {
     // A table of no routes.
+    #[tactic(auto, unfolding(crate::specs::Tables::rising))]
     pub fn new(heap: Global) -> Table
         ensures { entries result ≡ [] }
     {
@@ -38,10 +40,8 @@ impl Table {
     pub fn get(&self, prefix: Prefix) -> Option<NextHop>
         ensures { result ≡ at (entries self.now) (bits prefix) }
     {
-        match self.search(prefix) {
-            Ok(i) => Some(self.routes[i].next_hop),
-            Err(_) => None,
-        }
+        let i = self.search(prefix).ok()?;
+        Some(self.routes[i].next_hop)
     }
 
     // Gets memory for so many routes more, which puts then need not get.
@@ -66,15 +66,14 @@ impl Table {
     {
         match self.search(route.prefix) {
             Ok(i) => {
-                let old = self.routes[i].next_hop;
-                self.routes[i] = route;
-                Ok(Some(old))
+                let old = mem::replace(&mut self.routes[i], route);
+                Ok(Some(old.next_hop))
             }
             Err(i) => {
                 self.reserve(1)?;
                 // with the memory at hand neither is refused
-                let _ = self.networks.insert(i, route.prefix.network());
-                let _ = self.routes.insert(i, route);
+                self.networks.insert(i, route.prefix.network())?;
+                self.routes.insert(i, route)?;
                 Ok(None)
             }
         }
@@ -86,12 +85,8 @@ impl Table {
         ensures after { entries self.new ≡ without (bits prefix) (entries self.old) }
         ensures keeps { room self.old ≤ room self.new }
     {
-        match self.search(prefix) {
-            Ok(i) => {
-                self.networks.remove(i);
-                Some(self.routes.remove(i).next_hop)
-            }
-            Err(_) => None,
-        }
+        let i = self.search(prefix).ok()?;
+        self.networks.remove(i);
+        Some(self.routes.remove(i).next_hop)
     }
 }

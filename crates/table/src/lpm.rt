@@ -5,7 +5,6 @@ ghost use Rattle.table.specs.Model.{entries};
 
 use crate::lookups::Match;
 use crate::route::NextHop;
-use crate::search::rank;
 use crate::table::Table;
 use prefix::Prefix;
 
@@ -20,11 +19,8 @@ impl Table {
         let host = Prefix::host(address);
         let mut key = host;
         'shorter: loop {
-            let end = rank(&self.networks, &self.routes, key);
-            if end == 0 {
-                return None;
-            }
-            let route = self.routes[end - 1];
+            let last = self.last_up_to(key)?;
+            let route = self.routes[last];
             let shared = route.prefix.common(host);
             if shared == route.prefix.len() {
                 return Some(Match {
@@ -40,9 +36,6 @@ impl Table {
     pub fn next_hop(&self, address: u32) -> NextHop
         ensures { result ≡ sends (entries self.now) (address_bits address) }
     {
-        match self.lookup(address) {
-            Some(found) => found.next_hop,
-            None => 0,
-        }
+        self.lookup(address).map_or(0, |found| found.next_hop)
     }
 }

@@ -5,7 +5,7 @@ ghost use Rattle.table.specs.Routes.{entry_of, network_of};
 use crate::route::Route;
 
 // Routes by bits as a number rising and then by length rising, no two with the same bits.
-#[derive(Drop)]
+#[derive(PartialEq, Eq, Debug, Drop)]
 pub struct Table {
     pub(crate) routes: Vec<Route>,
     // the routes' bits as numbers, close together for the searches

@@ -1,34 +1,25 @@
-use Rattle.std.proofs.Common.{map, Some, vec_items, sym, ap, ◌∙◌, arith}
+use Rattle.std.proofs.Common.{map, ap, ◌∙◌}
 use Rattle.prefix.specs.Model.{bits}
 use Rattle.table.specs.Routes.{entry_of}
-use Rattle.table.specs.Model.{entries}
-use Rattle.table.proofs.Places.{standing, lacking, hop_at}
-use Rattle.table.proofs.Held.{within, gone_is, gone_sound, sound_at}
+use Rattle.table.proofs.Held.{stands, lacks, gives, gone_is, gone_sound}
 use Rattle.table.proofs.table.Table.remove.Goals as goal
 
-pub remove-requires : goal.remove-requires
-remove-requires c = (within c.args.self.now _ _ c.in-Ok.ensures).in_networks
+pub returns-in_err-i-clause-value : goal.returns-in_err-i-clause-value
+returns-in_err-i-clause-value c = c.from_residual.ensures ∙ (lacks c.args.self.now (bits c.args.prefix) _ c.search.ensures c.in_err-i.ensures.value).0
 
-pub remove-requires-in-Ok : goal.remove-requires-in-Ok
-remove-requires-in-Ok c = (within c.args.self.now _ _ c.in-Ok.ensures).in_routes
+pub returns-in_err-i-clause-after : goal.returns-in_err-i-clause-after
+returns-in_err-i-clause-after c = (lacks c.args.self.now (bits c.args.prefix) _ c.search.ensures c.in_err-i.ensures.value).1
 
 pub invariant_of-self : goal.invariant_of-self
 invariant_of-self c =
-    let s = sound_at _ _ _ _ c.remove-in-Ok.ensures.items c.remove.ensures.items (gone_sound c.args.self.now _ _ c.in-Ok.ensures) in
-    record { ordered = s.ordered; indexed = s.indexed }
+    let s = stands c.args.self.now (bits c.args.prefix) _ c.in_ok-i.i c.search.ensures c.in_ok-i.ensures.value in
+    gone_sound c.args.self.now _ _ s _ _ c.remove-2.ensures.items c.remove.ensures.items
 
-pub returns-in-Ok : goal.returns-in-Ok
-returns-in-Ok c =
-    let t = c.args.self.now in
-    let i = c.in-Ok.i in
-    let s = standing (entries t) (bits c.args.prefix) i t.ordered c.in-Ok.ensures in
-    record {
-      after = ap (map entry_of) c.remove-in-Ok.ensures.items ∙ gone_is t _ _ c.in-Ok.ensures;
-      value = sym (s.gives ∙ ap Some (hop_at (vec_items t.routes) i c.remove-in-Ok.result (within t _ _ c.in-Ok.ensures).in_items c.remove-in-Ok.ensures.value));
-      keeps = omega (arith, c.remove.ensures.len, c.remove.ensures.capacity, c.remove-in-Ok.ensures.len, c.remove-in-Ok.ensures.capacity);
-    }
+pub returns-clause-value : goal.returns-clause-value
+returns-clause-value c =
+    let s = stands c.args.self.now (bits c.args.prefix) _ c.in_ok-i.i c.search.ensures c.in_ok-i.ensures.value in gives c.args.self.now _ _ s _ c.remove-2.ensures.value
 
-pub returns-in-Err : goal.returns-in-Err
-returns-in-Err c =
-    let l = lacking (entries c.args.self.now) (bits c.args.prefix) _ c.in-Err.ensures in
-    record { value = sym l.none; after = sym l.leaves; keeps = omega arith }
+pub returns-clause-after : goal.returns-clause-after
+returns-clause-after c =
+    let s = stands c.args.self.now (bits c.args.prefix) _ c.in_ok-i.i c.search.ensures c.in_ok-i.ensures.value in
+    ap (map entry_of) c.remove-2.ensures.items ∙ gone_is c.args.self.now _ _ s
