@@ -6,13 +6,10 @@ use Rattle.prefix.specs.Bits.{Bits, before}
 use Rattle.prefix.proofs.Order.{before_trans, before_differ, before_other}
 use Rattle.table.specs.Tables.{Entry, Entries, every, has, distinct, without, insert, put, leads, rising}
 use Rattle.table.specs.Laws.{StaysRising, RisingDistinct}
-use Rattle.table.proofs.Picks.{has_without, every_parts, every_from, every_without, every_insert}
+use Rattle.table.proofs.Picks.{has_without, every_parts, every_without, every_insert}
 
 pub leads_parts : (e f : Entry) (fs : Entries) → leads e (f ∷ fs) ≡ true → (before e.prefix f.prefix ≡ true) × (leads e fs ≡ true)
 leads_parts e f fs h = every_parts (λ g. before e.prefix g.prefix) f fs h
-
-pub leads_from : (e f : Entry) (fs : Entries) → before e.prefix f.prefix ≡ true → leads e fs ≡ true → leads e (f ∷ fs) ≡ true
-leads_from e f fs b h = every_from (λ g. before e.prefix g.prefix) f fs b h
 
 pub rising_parts : (e : Entry) (es : Entries) → rising (e ∷ es) ≡ true → (leads e es ≡ true) × (rising es ≡ true)
 unfolding rising

@@ -1,6 +1,6 @@
 -- One step of the look-up in a table of the code. Assumes nothing.
 use Rattle.std.proofs.Common.{◌≡◌, ℕ, ◌+◌, ◌<◌, length, get_or, take, Some, None, vec_items, sym, ap, ◌∙◌, subst, ap₂, arith}
-use Rattle.std.proofs.lemmas.List.{length-map, take_all, length-take-le}
+use Rattle.std.proofs.lemmas.List.{length-map, length-take-le}
 use Rattle.prefix.specs.Bits.{Bits, common}
 use Rattle.prefix.specs.Model.{bits}
 use Rattle.table.specs.declared.route.Route.{Route}
@@ -11,16 +11,6 @@ use Rattle.table.specs.Search.{entry_at, prefix_at, Ranked}
 use Rattle.table.specs.Model.{entries}
 use Rattle.table.proofs.Places.{entry_at_lem}
 use Rattle.table.proofs.Longest.{Narrowed, Clear, finds_none, finds_last, narrows}
-
--- the whole address is where the search begins
-pub starts : (t : Table) (a key : Bits) → key ≡ a → Narrowed (entries t) a key
-starts t a key e =
-    let l = ap length e in
-    record {
-      short = omega arith;
-      front = e ∙ sym (take_all (length key) a (omega arith));
-      clear = λ n h k. absurd (omega arith);
-    }
 
 module _ (t : Table) (a key : Bits) (inv : Narrowed (entries t) a key) where
   at_front : (r : ℕ) → Ranked (entries t) key r → Ranked (entries t) (take (length key) a) r

@@ -7,8 +7,9 @@ use crate::table::Table;
 use prefix::Prefix;
 
 impl Table {
-    // Where the last route stands that comes no later than the key. The networks are searched by halving;
-    // of the few routes with the key's own network the longer ones come after it, and stand last.
+    // Where the last route stands that comes no later than the key.
+    // It is among those whose networks are at most the key's, whose end is found by halving;
+    // of these only the few with the key's own network and more bits come after the key, and they stand last.
     pub(crate) fn last_up_to(&self, key: Prefix) -> Option<usize>
         ensures { MatchOption result (Ranked (entries self.now) (bits key) 0) (λ i. Ranked (entries self.now) (bits key) (i + 1)) }
     {

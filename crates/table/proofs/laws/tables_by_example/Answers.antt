@@ -1,4 +1,4 @@
-use Rattle.std.proofs.Common.{◌≡◌, ℕ, ◌<◌, true, false, [], ◌∷◌, refl, arith}
+use Rattle.std.proofs.Common.{◌≡◌, true, false, [], ◌∷◌, refl, arith}
 use Rattle.prefix.specs.Bits.{Bits, Address, begins, same, before}
 use Rattle.table.specs.Tables.{find, sends, has, distinct, every, pick, without, insert, rising}
 use Rattle.table.specs.Examples.{line}
@@ -12,9 +12,6 @@ halves (true ∷ []) h = refl
 halves (false ∷ []) h = refl
 halves (x ∷ y ∷ a) h = absurd (omega arith)
 
-never : (x : ℕ) → x ≡ 0 → 0 < x → ⊥
-never x e h = omega arith
-
 pub returns : goal.returns
 unfolding begins same before find has distinct every pick without insert rising
 returns c = record {
@@ -23,8 +20,8 @@ returns c = record {
   sending = (
     (λ a _. refl),
     refl,
-    (λ h. never 1 (h (true ∷ true ∷ []) refl) (omega arith)),
+    (λ h. omega (arith, h (true ∷ true ∷ []) refl)),
     halves,
-    λ h. never 3 (h (false ∷ []) refl) (omega arith),
+    λ h. omega (arith, h (false ∷ []) refl),
   );
 }
