@@ -1,11 +1,10 @@
 -- Needs of the code that are kept for trees: joined, lifted along an edge, and what is chosen by them. Assumes nothing.
-use Rattle.std.proofs.Common.{◌≡◌, ℕ, zero, suc, ◌+◌, Bool, true, false, cond, ◌&&◌, ◌||◌, eqb, length, sym, refl, ap, ◌∙◌, subst, ap₂, arith}
+use Rattle.std.proofs.Common.{◌≡◌, ℕ, zero, suc, ◌+◌, Bool, true, false, cond, ◌&&◌, ◌||◌, eqb, length, Some, None, Option, sym, refl, ap, ◌∙◌, subst, ap₂, arith}
 use mathlib.Core.Path.{fun_ext}
 use Rattle.std.proofs.lemmas.Bool.{both_ways, cond-true, cond-false, or_from, ne_eqb}
 use Rattle.prefix.specs.Bits.{Bits}
 use Rattle.fewest.specs.declared.along.Along.{Along}
 use Rattle.fewest.specs.declared.along.Along.TheVariants.{Nothing, Top, Sides}
-use Rattle.fewest.specs.declared.choice.Choice.{Choice}
 use Rattle.fewest.specs.Trees.{Tree, Fork, all_to}
 use Rattle.fewest.specs.Needs.{need, least, reaches, both, meet}
 use Rattle.fewest.specs.Prescribed.{prescribed}
@@ -14,6 +13,8 @@ use Rattle.fewest.specs.Laws.{Chooses, lines_by, between}
 use Rattle.fewest.proofs.Kept.{uniform_kept, determined, meet_is, joined, chosen}
 use Rattle.fewest.proofs.Edges.{edge_kept, edge_lines}
 use Rattle.aggregate.specs.declared.need.Need.{Need}
+use Rattle.aggregate.specs.declared.hops.HopSet.{HopSet}
+use Rattle.aggregate.specs.Sets.{has, Lowest}
 use Rattle.aggregate.specs.Model.{capped, among, Keeps, need_with, UniformTo, JoinedTo, count_above, LiftedTo}
 
 -- the set of a kept need, as a whole
@@ -91,7 +92,13 @@ lifted_alone (suc (suc n)) x a r z o c m = record { number = c; members = m }
 
 -- THE CHOICE
 
-pub chosen_lines : (a b : Need) (h : ℕ) (c : Choice) → Chooses (among a) (among b) h c →
+-- the lowest of what both sets have, where neither has h
+pub lowest_chooses : (a b : Need) (s : HopSet) (h : ℕ) (c : Option ℕ) → Lowest s c → ((k : ℕ) → has s k ≡ (among a k && among b k)) → (among a h || among b h) ≡ false →
+    Chooses (among a) (among b) h c
+lowest_chooses a b s h None l m n = λ k e. absurd (both_ways _ (l k) (m k ∙ e))
+lowest_chooses a b s h (Some k) l m n = (sym (m k) ∙ l.0, λ j e. l.1 j (m j ∙ e), n)
+
+pub chosen_lines : (a b : Need) (h : ℕ) (c : Option ℕ) → Chooses (among a) (among b) h c →
     (low high : Tree) → Keeps a low → Keeps b high → prescribed (Fork low high) h ≡ lines_by c h (prescribed low) (prescribed high)
 chosen_lines a b h c s low high p q =
     (chosen low high h).1 c

@@ -3,7 +3,7 @@
 
 mod choice;
 mod edge;
-pub mod hops;
+mod hops;
 mod need;
 
 pub use choice::choose;

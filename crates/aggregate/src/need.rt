@@ -5,13 +5,12 @@ ghost use Rattle.fewest.specs.Needs.{need};
 ghost use Rattle.fewest.specs.Edges.{edge};
 ghost use Rattle.aggregate.specs.Model.{JoinedTo, Keeps, LiftedTo, UniformTo, among, capped, need_with};
 
-use crate::hops;
 use crate::hops::HopSet;
 use table::NextHop;
 
 // How few lines a part of the addresses needs: the lowest number over all next hops that one may come with, and the set of those for which it is
 // enough. For any other it is one more. Numbers stop at the highest that the count holds; no table has so many lines.
-#[derive(Clone, Copy, Debug)]
+#[derive(Clone, Copy, PartialEq, Eq, Debug)]
 pub struct Need {
     pub(crate) count: u32,
     pub(crate) hops: HopSet,
@@ -25,7 +24,7 @@ impl Need {
     {
         Need {
             count: 0,
-            hops: hops::only(hop),
+            hops: HopSet::only(hop),
         }
     }
 
@@ -40,7 +39,7 @@ impl Need {
     pub fn reaches(&self, hop: NextHop) -> bool
         ensures { result ≡ among self.now hop }
     {
-        hops::contains(&self.hops, hop)
+        self.hops.contains(hop)
     }
 
     // The lines needed by one who comes with this next hop.
@@ -62,12 +61,11 @@ impl Need {
         ensures keeps { (low high : Tree) → Keeps self.now low → Keeps other.now high → Keeps result (Fork low high) }
     {
         let count = self.count.saturating_add(other.count);
-        let shared = hops::meet(&self.hops, &other.hops);
-        let either = hops::union(&self.hops, &other.hops);
-        if hops::is_empty(&shared) {
+        let shared = self.hops & other.hops;
+        if shared.is_empty() {
             Need {
                 count: count.saturating_add(1),
-                hops: either,
+                hops: self.hops | other.hops,
             }
         } else {
             Need {
@@ -86,11 +84,11 @@ impl Need {
             return *self;
         }
         let count = self.lines(hop);
-        let beside = hops::only(hop);
+        let beside = HopSet::only(hop);
         if bits == 1 && !self.reaches(hop) {
             return Need {
                 count,
-                hops: hops::union(&self.hops, &beside),
+                hops: self.hops | beside,
             };
         }
         Need {

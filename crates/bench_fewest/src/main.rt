@@ -3,7 +3,6 @@
 #![tactic(auto)]
 
 use aggregate::{Need, choose};
-use fewest::Choice;
 use std::alloc::Global;
 use std::env;
 use std::time::Instant;
@@ -63,7 +62,7 @@ fn write_down(needs: &Vec<Need>, given: &mut Vec<u8>) -> (u32, u64) {
                 .wrapping_mul(31)
                 .wrapping_add(u64::from(need.lines(hop)));
         } else if let (Some(low), Some(high)) = (needs.get(2 * i), needs.get(2 * i + 1)) {
-            if let Choice::Line(k) = choose(low, high, hop) {
+            if let Some(k) = choose(low, high, hop) {
                 lines = lines.saturating_add(1);
                 onward = k;
             }

@@ -1,6 +1,6 @@
 // Sets of next hops, needs, choices and edges on worked examples.
 use aggregate::{EdgeRoutes, Need, choose, edge_routes, hops};
-use fewest::{Along, Choice};
+use fewest::Along;
 use prefix::Prefix;
 use std::process::Abort;
 use table::Route;
@@ -48,11 +48,11 @@ fn four_quarters_need_three_lines(rt: HostRuntime) {
     assert_eq!(rt; whole.lines(1), 2);
     assert_eq!(rt; whole.lines(0), 3);
     // so a line for all addresses saves one, with the lower next hop
-    assert_eq!(rt; choose(&half, &half, 0), Choice::Line(1));
-    assert_eq!(rt; choose(&half, &half, 2), Choice::Stay);
+    assert_eq!(rt; choose(&half, &half, 0), Some(1));
+    assert_eq!(rt; choose(&half, &half, 2), None);
     // and at the quarters none is written
-    assert_eq!(rt; choose(&one, &two, 1), Choice::Stay);
-    assert_eq!(rt; choose(&one, &two, 9), Choice::Stay);
+    assert_eq!(rt; choose(&one, &two, 1), None);
+    assert_eq!(rt; choose(&one, &two, 9), None);
 }
 
 #[test]
@@ -60,10 +60,10 @@ fn no_line_where_one_half_can_do_with_what_comes(rt: HostRuntime) {
     // 00 to 1, 01 dropped, 1 to 1: a line for all addresses with 1 would save nothing
     let low = Need::uniform(1).join(&Need::uniform(0));
     let high = Need::uniform(1);
-    assert_eq!(rt; choose(&low, &high, 0), Choice::Stay);
+    assert_eq!(rt; choose(&low, &high, 0), None);
     assert_eq!(rt; low.join(&high).lines(0), 2);
     // one who comes with another next hop than both gets it
-    assert_eq!(rt; choose(&low, &high, 5), Choice::Line(1));
+    assert_eq!(rt; choose(&low, &high, 5), Some(1));
 }
 
 #[test]

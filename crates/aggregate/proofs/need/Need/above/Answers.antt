@@ -12,9 +12,9 @@ returns-then-bits-eq0 c =
 
 pub returns-then-not-reaches : goal.returns-then-not-reaches
 returns-then-not-reaches c =
-    let value : LiftedTo c.args.bits c.args.hop c.args.self.now (record { count = c.lines-count.result; hops = c.union.result }) =
+    let value : LiftedTo c.args.bits c.args.hop c.args.self.now (record { count = c.lines-count.result; hops = c.bitor.result }) =
     lifted_wider c.args.bits c.args.hop c.args.self.now _ c.if-bits-eq1.true (sym c.reaches.ensures ∙ c.if-not-reaches.true) c.lines-count.ensures.value
-    (λ k. c.union.ensures k ∙ ap (λ (b : Bool). among c.args.self.now k || b) (c.only-beside.ensures k)) in
+    (λ k. c.bitor.ensures k ∙ ap (λ (b : Bool). among c.args.self.now k || b) (c.only-beside.ensures k)) in
     record { value = value; keeps = lifted_keeps c.args.bits c.args.hop c.args.self.now _ value }
 
 pub returns : goal.returns
