@@ -7,6 +7,6 @@ mod hops;
 mod need;
 
 pub use choice::choose;
-pub use edge::{EdgeRoutes, edge_routes};
+pub use edge::{Edge, EdgeRoutes};
 pub use hops::HopSet;
 pub use need::Need;
