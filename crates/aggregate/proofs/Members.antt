@@ -1,5 +1,5 @@
 -- The members of sets in four words: of one next hop, met, joined, none, and the lowest. Assumes nothing.
-use Rattle.std.proofs.Common.{◌≡◌, ℕ, ◌+◌, ◌*◌, ◌/◌, ◌%◌, ◌^◌, ◌<◌, ◌≤◌, min, max, Bool, true, false, ◌&&◌, ◌||◌, eqb, ◌⊎◌, List, [], ◌∷◌, length, get_or, set, Some, refl, ap, ◌∙◌, inl, inr, ⊎_elim, arith, get_or-set_other, get_or-set_same, w64}
+use Rattle.std.proofs.Common.{◌≡◌, ℕ, ◌+◌, ◌*◌, ◌/◌, ◌%◌, ◌^◌, ◌<◌, ◌≤◌, min, max, true, false, ◌&&◌, ◌||◌, eqb, ◌⊎◌, List, [], ◌∷◌, length, get_or, set, Some, ap, ◌∙◌, inl, inr, ⊎_elim, arith, get_or-set_other, get_or-set_same, w64}
 use lib.Bits.{bit_and, bit_or, and_zero_l, or_zero_l}
 use Rattle.std.specs.Int.{bit_at, trailing_zeros}
 use Rattle.std.proofs.lemmas.Nat.{one_shl, mod_below}
@@ -20,9 +20,6 @@ past s l i h = get_or_past s.words i 0 (omega arith)
 
 zero_has : (s : HopSet) (k : ℕ) → get_or s.words (k / 64) 0 ≡ 0 → has s k ≡ false
 zero_has s k e = digit_has s k 0 e ∙ ap (λ d. eqb d 1) (bit_at-zero (k % 64))
-
-pub zeros_has : (s : HopSet) → length s.words ≡ 4 → ((i : ℕ) → i < 4 → get_or s.words i 0 ≡ 0) → (k : ℕ) → has s k ≡ false
-zeros_has s l z k = ⊎_elim (λ (h : k / 64 < 4). zero_has s k (z (k / 64) h)) (λ (h : 4 ≤ k / 64). zero_has s k (past s l (k / 64) h)) (cases_lt (k / 64) 4)
 
 -- one set by two others, word by word
 module _ (f : ℕ → ℕ → ℕ) (z : f 0 0 ≡ 0) (a b s : HopSet) (l : length a.words ≡ 4) (m : length b.words ≡ 4) (n : length s.words ≡ 4)

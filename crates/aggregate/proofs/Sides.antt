@@ -1,5 +1,5 @@
 -- The routes along an edge. Assumes nothing.
-use Rattle.std.proofs.Common.{◌≡◌, ℕ, zero, suc, ◌-◌, ◌<◌, ◌≤◌, Bool, true, false, cond, not, ◌||◌, eqb, [], ◌∷◌, ◌++◌, length, take, drop, Some, None, Option, sym, refl, ap, ◌∙◌, subst, ap₂, append-nil, arith, length-drop, take-append-drop}
+use Rattle.std.proofs.Common.{◌≡◌, ℕ, zero, suc, ◌<◌, ◌≤◌, Bool, true, false, cond, not, ◌||◌, eqb, [], ◌∷◌, ◌++◌, length, take, drop, Some, None, Option, sym, refl, ap, ◌∙◌, subst, ap₂, append-nil, arith, length-drop, take-append-drop}
 use Rattle.std.specs.List.{slice_get}
 use Rattle.prefix.specs.Bits.{Bits}
 use Rattle.prefix.specs.Model.{bits}
@@ -25,18 +25,13 @@ use Rattle.aggregate.proofs.Keeping.{along_lines}
 pub bit_past : (p : Bits) (i : ℕ) → None ≡ slice_get p i → take 1 (drop i p) ≡ []
 bit_past [] zero e = refl
 bit_past [] (suc i) e = refl
-bit_past (b ∷ p) zero e = let z : ◌≡◌ {A = ℕ} 0 1 = cc in absurd (omega arith)
+bit_past (b ∷ p) zero e = cc
 bit_past (b ∷ p) (suc i) e = bit_past p i e
 
 pub bit_at : (p : Bits) (i : ℕ) (b : Bool) → Some b ≡ slice_get p i → take 1 (drop i p) ≡ b ∷ []
-bit_at [] i b e = let z : ◌≡◌ {A = ℕ} 0 1 = cc in absurd (omega arith)
+bit_at [] i b e = cc
 bit_at (c ∷ p) zero b e = let s : c ≡ b = cc in ap (λ (d : Bool). d ∷ []) s
 bit_at (c ∷ p) (suc i) b e = bit_at p i b e
-
-pub bit_within : (p : Bits) (i : ℕ) (b : Bool) → Some b ≡ slice_get p i → i < length p
-bit_within [] i b e = let z : ◌≡◌ {A = ℕ} 0 1 = cc in absurd (omega arith)
-bit_within (c ∷ p) zero b e = omega arith
-bit_within (c ∷ p) (suc i) b e = omega (arith, bit_within p i b e)
 
 -- the line on its other side: there is none where there is no bit,
 pub none_aside : (b : Bool) (x : ℕ) (q d : Bits) → d ≡ [] → [] ≡ beneath q (sides b x d)
@@ -99,20 +94,16 @@ sides_two f x zero (a ∷ b ∷ c ∷ p) l m = absurd (omega arith)
 
 -- lines stand aside only of one or two bits
 pub along_sides : (n x : ℕ) (s : ℕ → Bool) (h : ℕ) → Sides ≡ along n x s h → (0 < n) × (n ≤ 2)
-along_sides zero x s h e = let z : ◌≡◌ {A = ℕ} 0 1 = cc in absurd (omega arith)
+along_sides zero x s h e = cc
 along_sides (suc zero) x s h e = (omega arith, omega arith)
 along_sides (suc (suc zero)) x s h e = (omega arith, omega arith)
 along_sides (suc (suc (suc n))) x s h e = absurd (no_sides (eqb (suc (suc (suc n))) 0 || eqb h x) e)
   where
     no_sides : (b : Bool) → Sides ≡ cond b Nothing Top → ⊥
-    no_sides true e = let z : ◌≡◌ {A = ℕ} 0 1 = cc in omega arith
-    no_sides false e = let z : ◌≡◌ {A = ℕ} 0 1 = cc in omega arith
+    no_sides true e = cc
+    no_sides false e = cc
 
 -- THE WHOLE EDGE
-
--- the choice along the bits that the code has counted
-pub counted : (e : Edge) (h m n : ℕ) (s : ℕ → Bool) (c : Along) → c ≡ along n e.hop s h → n ≡ m - e.from → m ≡ length (bits e.node) → c ≡ along (edge_len e) e.hop s h
-counted e h m n s c i f g = i ∙ ap (λ (w : ℕ). along w e.hop s h) (f ∙ ap (λ (w : ℕ). w - e.from) g)
 
 module _ (e : Edge) (h : ℕ) (n : Need) (r : EdgeRoutes) where
   surrounds : (c : Along) → c ≡ along (edge_len e) e.hop (among n) h → Brought e h c r → (t : Tree) → Keeps n t → Surrounds e h r t

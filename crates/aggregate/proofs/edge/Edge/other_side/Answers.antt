@@ -1,12 +1,13 @@
-use Rattle.std.proofs.Common.{◌≡◌, Bool, true, false, not, [], ◌∷◌, ◌++◌, take, drop, Some, None, ap, ◌∙◌, arith, rules}
+use Rattle.std.proofs.Common.{◌≡◌, not, [], ◌∷◌, ◌++◌, take, Some, None, sym, ap, ◌∙◌, arith, rules}
 use Rattle.std.specs.List.{slice_get}
+use Rattle.std.proofs.lemmas.Option.{slice_get_within}
 use Rattle.std.proofs.lemmas.Grind.{common_steps}
 use Rattle.prefix.specs.Bits.{Bits}
 use Rattle.prefix.specs.Model.{bits}
 use Rattle.table.specs.Examples.{line}
 use Rattle.table.proofs.Places.{key_short}
 use Rattle.aggregate.specs.Routes.{line_of}
-use Rattle.aggregate.proofs.Sides.{bit_past, bit_at, bit_within, none_aside, other_aside, own_aside}
+use Rattle.aggregate.proofs.Sides.{bit_past, bit_at, none_aside, other_aside, own_aside}
 use Rattle.aggregate.proofs.edge.Edge.other_side.Goals as goal
 
 pub returns-in_err-bit : goal.returns-in_err-bit
@@ -24,7 +25,7 @@ returns-then-branch-bit c =
 pub returns-in_err-prefix : goal.returns-in_err-prefix
 returns-in_err-prefix c =
     let e : Some c.in_ok-bit.field-0 ≡ slice_get (bits c.args.self.node) c.args.place = search rules in
-    absurd (omega (arith, c.in_err-prefix.ensures, c.cut.ensures.long, bit_within (bits c.args.self.node) c.args.place _ e, key_short c.args.self.node))
+    absurd (omega (arith, c.in_err-prefix.ensures, c.cut.ensures.long, slice_get_within (bits c.args.self.node) c.args.place _ (sym e), key_short c.args.self.node))
 
 pub returns : goal.returns
 returns c =

@@ -1,12 +1,11 @@
-use Rattle.std.proofs.Common.{◌≡◌, suc, ◌-◌, true, false, [], ◌∷◌, length, take, refl, ap, ◌∙◌, arith, rules}
+use Rattle.std.proofs.Common.{◌≡◌, suc, true, false, [], ◌∷◌, refl, ap, ◌∙◌, arith, rules}
 use Rattle.prefix.specs.Bits.{Bits}
-use Rattle.prefix.specs.Model.{bits}
 use Rattle.table.specs.Examples.{line}
 use Rattle.table.proofs.Places.{key_short}
 use Rattle.fewest.specs.declared.along.Along.TheVariants.{Nothing, Top, Sides}
 use Rattle.fewest.specs.Edges.{along}
 use Rattle.aggregate.specs.Model.{among}
-use Rattle.aggregate.specs.Routes.{line_of, edge_len, side_at}
+use Rattle.aggregate.specs.Routes.{edge_len, side_at}
 use Rattle.aggregate.proofs.Sides.{nothing_routed, top_routed, sides_routed, two_lines, along_sides}
 use Rattle.aggregate.proofs.edge.Edge.routes.Goals as goal
 

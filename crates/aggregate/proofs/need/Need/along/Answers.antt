@@ -1,4 +1,4 @@
-use Rattle.std.proofs.Common.{rules, arith}
+use Rattle.std.proofs.Common.{arith}
 use Rattle.std.proofs.lemmas.Grind.{common_steps}
 use Rattle.fewest.specs.declared.along.Along.TheVariants.{Nothing, Top, Sides}
 use Rattle.aggregate.proofs.Keeping.{along_lines}
