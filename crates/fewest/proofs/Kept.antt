@@ -241,21 +241,13 @@ module _ (l r : Tree) (h : ℕ) (e : uniform (Fork l r) ≡ true) where
   high_all = (and_parts (all_to (first (Fork l r)) l) (all_to (first (Fork l r)) r) e).1
 
   uniform_both : (k : ℕ) → both l r k ≡ eqb k (first (Fork l r))
-  uniform_both k = ap₂ ◌&&◌ ((uniform_kept _ l low_all).1 k) ((uniform_kept _ r high_all).1 k) ∙ twice (eqb k (first (Fork l r)))
-    where
-      twice : (b : Bool) → (b && b) ≡ b
-      twice true = refl
-      twice false = refl
+  uniform_both k = ap₂ ◌&&◌ ((uniform_kept _ l low_all).1 k) ((uniform_kept _ r high_all).1 k) ∙ grind arith
 
   uniform_writes : writes l r h ≡ not (eqb h (first (Fork l r)))
   uniform_writes =
       ap₂ (λ (a b : Bool). a && not b)
       (meet_from l r (first (Fork l r)) (uniform_both (first (Fork l r)) ∙ eq-eqb (first (Fork l r)) (first (Fork l r)) refl))
-      (ap₂ ◌||◌ ((uniform_kept _ l low_all).1 h) ((uniform_kept _ r high_all).1 h) ∙ twice (eqb h (first (Fork l r))))
-    where
-      twice : (b : Bool) → (b || b) ≡ b
-      twice true = refl
-      twice false = refl
+      (ap₂ ◌||◌ ((uniform_kept _ l low_all).1 h) ((uniform_kept _ r high_all).1 h) ∙ grind arith)
 
   -- with its own next hop it has no lines
   uniform_none : (k : ℕ) → eqb k (first (Fork l r)) ≡ true → forked (prescribed l k) (prescribed r k) ≡ []

@@ -2,13 +2,14 @@
 use Rattle.std.proofs.Common.{◌≡◌, ℕ, zero, suc, ◌+◌, ◌≤◌, Bool, true, false, cond, eqb, [], ◌∷◌, ◌++◌, length, sym, refl, ap, ◌∙◌, ap₂, ⊎_elim, append_assoc, append-nil, arith}
 use Rattle.std.proofs.lemmas.Bool.{or_cases, cases_Bool, eq-eqb, eqb-true, and_from}
 use Rattle.std.proofs.lemmas.Bool.Decides.{nat_tests}
+use Rattle.std.proofs.lemmas.List.Folds.{list_any-append}
 use Rattle.prefix.specs.Bits.{Bits, Address}
 use Rattle.table.specs.Tables.{Entries, find, sends, SendSame}
 use Rattle.fewest.specs.Trees.{Tree, Leaf, Fork, Fits, tree_at, tree_of, goes, hops, elem, all_to}
 use Rattle.fewest.specs.Needs.{need}
 use Rattle.fewest.specs.Prescribed.{prescribed}
 use Rattle.fewest.specs.Laws.{TreeSends, TreeHops, TreeUniform, NoneFewer, SendingDecides}
-use Rattle.fewest.proofs.Lowest.{elem_append, elem_one}
+use Rattle.fewest.proofs.Lowest.{elem_one}
 use Rattle.fewest.proofs.Forks.{fork_low, fork_high, fork_out, all_uniform, all_goes, need_stay, need_line, need_outside}
 use Rattle.fewest.proofs.Split.{hop_or, sends_or, under, roots, hop_split, length_split, no_roots}
 
@@ -64,7 +65,7 @@ build_hop (suc w) f k e = step (build_hop w (λ a. f (false ∷ a)) k) (build_ho
     step p q = ⊎_elim
         (λ i. let a = p i in (false ∷ a.0, ap suc a.1, a.2))
         (λ i. let a = q i in (true ∷ a.0, ap suc a.1, a.2))
-        (or_cases _ _ (sym (elem_append k (hops (build w (λ a. f (false ∷ a)))) (hops (build w (λ a. f (true ∷ a))))) ∙ e))
+        (or_cases _ _ (sym (list_any-append _ (hops (build w (λ a. f (false ∷ a)))) (hops (build w (λ a. f (true ∷ a))))) ∙ e))
 
 build_all : (w : ℕ) (f : Bits → ℕ) (x : ℕ) → ((a : Bits) → Address w a → f a ≡ x) → all_to x (build w f) ≡ true
 unfolding build all_to

@@ -1,5 +1,6 @@
 -- What holds of need and of the prescribed table, for any table and any width; each statement is a theorem. Assumes nothing.
 use Rattle.std.specs.Prelude.{◌≡◌, ℕ, suc, ◌+◌, ◌≤◌, Bool, true, false, if◌then◌else◌, ◌&&◌, ◌||◌, [], ◌∷◌, ◌++◌, length, ◌==◌, Option, Some, None}
+use Rattle.std.specs.List.{list_any}
 use Rattle.prefix.specs.Bits.{Bits, Address, begins}
 use Rattle.table.specs.Examples.{line}
 use Rattle.table.specs.Tables.{Entries, sends, SendSame, every, sound, rising}
@@ -42,9 +43,8 @@ abbrev pub InOrder : Type 0
 InOrder = (w : ℕ) (t : Entries) → rising (short w t) ≡ true
 
 -- whether some line has this next hop
-unfoldable pub has_hop : ℕ → Entries → Bool
-has_hop k [] = false
-has_hop k (e ∷ es) = k == e.hop || has_hop k es
+abbrev pub has_hop : ℕ → Entries → Bool
+has_hop k t = list_any (λ e. k == e.hop) t
 
 -- has no next hops but 0 and those of the table,
 abbrev pub HopsAmong : Type 0

@@ -1,5 +1,6 @@
 -- How few lines a part of the addresses needs. Assumes nothing.
-use Rattle.std.specs.Prelude.{ℕ, ◌+◌, min, Bool, false, if◌then◌else◌, ◌&&◌, ◌||◌, List, [], ◌∷◌, ◌==◌}
+use Rattle.std.specs.Prelude.{ℕ, ◌+◌, min, Bool, if◌then◌else◌, ◌&&◌, List, [], ◌∷◌, ◌==◌}
+use Rattle.std.specs.List.{list_any}
 use Rattle.table.specs.Tables.{Entries}
 use Rattle.fewest.specs.Trees.{Tree, Leaf, Fork, tree_of, first, hops, uniform}
 
@@ -36,15 +37,10 @@ least t = lowest_over (need t) (need t (first t)) (hops t)
 abbrev pub reaches : Tree → ℕ → Bool
 reaches t h = need t h == least t
 
--- whether some element of a list passes a test
-unfoldable pub some : (ℕ → Bool) → List ℕ → Bool
-some f [] = false
-some f (x ∷ xs) = f x || some f xs
-
 -- whether a next hop reaches the lowest need of both halves
 abbrev pub both : Tree → Tree → ℕ → Bool
 both l r k = reaches l k && reaches r k
 
 -- whether two halves meet: some next hop does
 abbrev pub meet : Tree → Tree → Bool
-meet l r = some (both l r) (hops l)
+meet l r = list_any (both l r) (hops l)
