@@ -13,7 +13,7 @@ use Rattle.fewest.proofs.Kept.{uniform_kept, determined, meet_is, joined, chosen
 use Rattle.fewest.proofs.Edges.{edge_kept, edge_lines}
 use Rattle.aggregate.specs.declared.need.Need.{Need}
 use Rattle.aggregate.specs.declared.hops.HopSet.{HopSet}
-use Rattle.aggregate.specs.Sets.{has, Lowest}
+use Rattle.aggregate.specs.Sets.{has, Lowest, Empty}
 use Rattle.aggregate.specs.Model.{capped, among, Keeps, need_with, UniformTo, JoinedTo, count_above, LiftedTo}
 
 -- the set of a kept need, as a whole
@@ -51,6 +51,12 @@ joined_keeps a b n j low high p q = step (meet low high) refl
         let is = j.apart (λ k. sets k ∙ (meet_is low high).1 e k) in
         let tree = (joined low high).1 e in
         record { number = omega (arith, is.0, p.number, q.number, tree.0); members = λ i. is.1 i ∙ ap₂ ◌||◌ (p.members i) (q.members i) ∙ sym (tree.1 i) }
+
+-- what the code makes of them, by whether nothing is shared
+pub joined_by : (a b n : Need) (s u : HopSet) (e : Bool) → ((k : ℕ) → has s k ≡ (among a k && among b k)) → ((k : ℕ) → has u k ≡ (among a k || among b k)) → Empty s e →
+    n.count ≡ capped (a.count + b.count + cond e 1 0) → ((k : ℕ) → among n k ≡ cond e (has u k) (has s k)) → JoinedTo a b n
+joined_by a b n s u true m o z c h = record { meeting = λ k e. absurd (both_ways _ (z k) (m k ∙ e)); apart = λ _. (c, λ k. h k ∙ o k) }
+joined_by a b n s u false m o z c h = record { meeting = λ _ _. (omega arith, λ k. h k ∙ m k); apart = λ none. absurd (both_ways _ (none z.0) (sym (m z.0) ∙ z.1)) }
 
 -- an edge
 count_keeps : (n x : ℕ) (a : Need) (t : Tree) → Keeps a t → count_above n x a ≡ capped (least_above n x t)

@@ -1,4 +1,4 @@
-ghost use Rattle.std.specs.Prelude.{◌≡◌, ℕ, ◌&&◌, ◌||◌, ◌==◌};
+ghost use Rattle.std.specs.Prelude.{◌≡◌, ℕ, ◌&&◌, ◌||◌, ◌==◌, if◌then◌else◌};
 ghost use Rattle.aggregate.specs.Sets.{Empty, Lowest, has};
 
 use std::array;
@@ -32,7 +32,8 @@ impl HopSet {
     pub fn is_empty(&self) -> bool
         ensures { Empty self.now result }
     {
-        self.lowest().is_none()
+        let [a, b, c, d] = self.words;
+        a | b | c | d == 0
     }
 
     // The lowest next hop of the set, if it has one: the lowest bit of the first word that is not 0.
@@ -45,6 +46,19 @@ impl HopSet {
             }
         }
         None
+    }
+
+    // This set, or in its place the other. There is no branch: which of them is asked for is often as good as random, and would be guessed wrong.
+    pub(crate) fn or_if(self, replaced: bool, other: HopSet) -> HopSet
+        ensures { (k : ℕ) → has result k ≡ (if replaced then has other k else has self k) }
+    {
+        HopSet {
+            words: array::from_fn(|i| if replaced {
+                other.words[i]
+            } else {
+                self.words[i]
+            }),
+        }
     }
 }
 

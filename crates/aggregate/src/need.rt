@@ -60,18 +60,12 @@ impl Need {
         ensures value { JoinedTo self.now other.now result }
         ensures keeps { (low high : Tree) → Keeps self.now low → Keeps other.now high → Keeps result (Fork low high) }
     {
-        let count = self.count.saturating_add(other.count);
         let shared = self.hops & other.hops;
-        if shared.is_empty() {
-            Need {
-                count: count.saturating_add(1),
-                hops: self.hops | other.hops,
-            }
-        } else {
-            Need {
-                count,
-                hops: shared,
-            }
+        let apart = shared.is_empty();
+        let count = self.count.saturating_add(other.count);
+        Need {
+            count: count.saturating_add(u32::from(apart)),
+            hops: shared.or_if(apart, self.hops | other.hops),
         }
     }
 
