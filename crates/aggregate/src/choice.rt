@@ -13,6 +13,7 @@ pub fn choose(low: &Need, high: &Need, given: NextHop) -> Option<NextHop>
     ensures value { Chooses (among low.now) (among high.now) given result }
     ensures lines { (l h : Tree) → Keeps low.now l → Keeps high.now h → prescribed (Fork l h) given ≡ lines_by result given (prescribed l) (prescribed h) }
 {
+    // both are asked, since a branch between them would often be guessed wrong
     if low.reaches(given) | high.reaches(given) {
         None
     } else {

@@ -55,6 +55,13 @@ pub struct EdgeRoutes {
 }
 
 impl Edge {
+    // How many bits of its own it has.
+    pub fn len(self) -> u8
+        ensures { result ≡ edge_len self }
+    {
+        self.node.len().saturating_sub(self.from)
+    }
+
     // The route on the other side of the node's bit at a place, if that bit is the given one: the route comes before the node in the order of
     // tables if the bit is 1, and after it if it is 0. There is none past the end of the node.
     fn other_side(self, place: u8, bit: bool) -> Option<Route>
@@ -75,7 +82,7 @@ impl Edge {
         ensures value { Brought self given (along (edge_len self) self.hop (among need.now) given) result }
         ensures lines { (t : Tree) → Keeps need.now t → Surrounds self given result t }
     {
-        match need.along(self.node.len().saturating_sub(self.from), self.hop, given) {
+        match need.along(self.len(), self.hop, given) {
             Along::Nothing => EdgeRoutes {
                 before: [None, None],
                 after: [None, None],

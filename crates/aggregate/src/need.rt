@@ -48,11 +48,7 @@ impl Need {
         ensures needed { (t : Tree) → Keeps self.now t → result ≡ capped (need t hop) }
     {
         let count = self.count;
-        if self.reaches(hop) {
-            count
-        } else {
-            count.saturating_add(1)
-        }
+        count.saturating_add(u32::from(!self.reaches(hop)))
     }
 
     // What two halves need together: this one and the other.

@@ -99,6 +99,13 @@ fn needs_above_edges(rt: HostRuntime) {
     assert_eq!(rt; dropped.along(2, 1, 9), Along::Top);
     assert_eq!(rt; dropped.along(3, 1, 1), Along::Nothing);
     assert_eq!(rt; dropped.along(0, 1, 9), Along::Nothing);
+    let edge = Edge {
+        node: Prefix::host(0).cut(24),
+        from: 16,
+        hop: 1,
+    };
+    assert_eq!(rt; edge.len(), 8);
+    assert_eq!(rt; Edge { from: 25, ..edge }.len(), 0);
 }
 
 // The routes along an edge down to a node that drops, for one who comes with a given next hop.
