@@ -1,19 +1,19 @@
 -- Needs of the code that are kept for trees: joined, lifted along an edge, and what is chosen by them. Assumes nothing.
-use Rattle.std.proofs.Common.{◌≡◌, ℕ, zero, suc, ◌+◌, Bool, true, false, cond, ◌&&◌, ◌||◌, eqb, length, sym, refl, ap, ◌∙◌, subst, ap₂, arith}
+use Rattle.std.proofs.Common.{◌≡◌, ℕ, zero, suc, ◌+◌, Bool, true, false, cond, ◌&&◌, ◌||◌, length, Some, None, Option, sym, refl, ap, ◌∙◌, subst, ap₂, arith}
 use mathlib.Core.Path.{fun_ext}
-use Rattle.std.proofs.lemmas.Bool.{both_ways, cond-true, cond-false, or_from, ne_eqb}
+use Rattle.std.proofs.lemmas.Bool.{both_ways}
 use Rattle.prefix.specs.Bits.{Bits}
 use Rattle.fewest.specs.declared.along.Along.{Along}
-use Rattle.fewest.specs.declared.along.Along.TheVariants.{Nothing, Top, Sides}
-use Rattle.fewest.specs.declared.choice.Choice.{Choice}
 use Rattle.fewest.specs.Trees.{Tree, Fork, all_to}
 use Rattle.fewest.specs.Needs.{need, least, reaches, both, meet}
 use Rattle.fewest.specs.Prescribed.{prescribed}
-use Rattle.fewest.specs.Edges.{edge, least_above, reach_above, aside, along}
+use Rattle.fewest.specs.Edges.{edge, least_above, reach_above, along}
 use Rattle.fewest.specs.Laws.{Chooses, lines_by, between}
 use Rattle.fewest.proofs.Kept.{uniform_kept, determined, meet_is, joined, chosen}
 use Rattle.fewest.proofs.Edges.{edge_kept, edge_lines}
 use Rattle.aggregate.specs.declared.need.Need.{Need}
+use Rattle.aggregate.specs.declared.hops.HopSet.{HopSet}
+use Rattle.aggregate.specs.Sets.{has, Lowest, Empty}
 use Rattle.aggregate.specs.Model.{capped, among, Keeps, need_with, UniformTo, JoinedTo, count_above, LiftedTo}
 
 -- the set of a kept need, as a whole
@@ -30,9 +30,9 @@ with_core : (b : Bool) (n l m : ℕ) → n ≡ capped l → m ≡ cond b l (suc 
 with_core true n l m p q = omega arith
 with_core false n l m p q = omega arith
 
-pub with_keeps : (n : Need) (t : Tree) (h : ℕ) → Keeps n t → need_with n h ≡ capped (need t h)
-with_keeps n t h k =
-    ap (λ (b : Bool). cond b n.count (capped (n.count + 1))) (k.members h) ∙ with_core (reaches t h) n.count (least t) (need t h) k.number (determined t h)
+pub with_keeps : (n : Need) (h m : ℕ) → m ≡ need_with n h → (t : Tree) → Keeps n t → m ≡ capped (need t h)
+with_keeps n h m e t k =
+    e ∙ ap (λ (b : Bool). cond b n.count (capped (n.count + 1))) (k.members h) ∙ with_core (reaches t h) n.count (least t) (need t h) k.number (determined t h)
 
 -- two halves
 pub joined_keeps : (a b n : Need) → JoinedTo a b n → (low high : Tree) → Keeps a low → Keeps b high → Keeps n (Fork low high)
@@ -52,19 +52,16 @@ joined_keeps a b n j low high p q = step (meet low high) refl
         let tree = (joined low high).1 e in
         record { number = omega (arith, is.0, p.number, q.number, tree.0); members = λ i. is.1 i ∙ ap₂ ◌||◌ (p.members i) (q.members i) ∙ sym (tree.1 i) }
 
--- what the code makes of them, where the sets are apart, and where they meet
-pub joined_apart : (a b n : Need) → ((k : ℕ) → (among a k && among b k) ≡ false) → n.count ≡ capped (a.count + b.count + 1) →
-    ((k : ℕ) → among n k ≡ (among a k || among b k)) → JoinedTo a b n
-joined_apart a b n none c m = record { meeting = λ k e. absurd (both_ways _ (none k) e); apart = λ _. (c, m) }
-
-pub joined_meeting : (a b n : Need) (k : ℕ) → (among a k && among b k) ≡ true → n.count ≡ capped (a.count + b.count) →
-    ((j : ℕ) → among n j ≡ (among a j && among b j)) → JoinedTo a b n
-joined_meeting a b n k e c m = record { meeting = λ _ _. (c, m); apart = λ none. absurd (both_ways _ (none k) e) }
+-- what the code makes of them, by whether nothing is shared
+pub joined_by : (a b n : Need) (s u : HopSet) (e : Bool) → ((k : ℕ) → has s k ≡ (among a k && among b k)) → ((k : ℕ) → has u k ≡ (among a k || among b k)) → Empty s e →
+    n.count ≡ capped (a.count + b.count + cond e 1 0) → ((k : ℕ) → among n k ≡ cond e (has u k) (has s k)) → JoinedTo a b n
+joined_by a b n s u true m o z c h = record { meeting = λ k e. absurd (both_ways _ (z k) (m k ∙ e)); apart = λ _. (c, λ k. h k ∙ o k) }
+joined_by a b n s u false m o z c h = record { meeting = λ _ _. (omega arith, λ k. h k ∙ m k); apart = λ none. absurd (both_ways _ (none z.0) (sym (m z.0) ∙ z.1)) }
 
 -- an edge
 count_keeps : (n x : ℕ) (a : Need) (t : Tree) → Keeps a t → count_above n x a ≡ capped (least_above n x t)
 count_keeps zero x a t k = k.number
-count_keeps (suc n) x a t k = with_keeps a t x k
+count_keeps (suc n) x a t k = with_keeps a x _ refl t k
 
 pub lifted_keeps : (n x : ℕ) (a r : Need) → LiftedTo n x a r → (bs : Bits) (t : Tree) → length bs ≡ n → Keeps a t → Keeps r (edge x bs t)
 lifted_keeps n x a r l bs t e k =
@@ -74,24 +71,15 @@ lifted_keeps n x a r l bs t e k =
       members = λ j. l.members j ∙ ap₂ (λ (m : ℕ) (s : ℕ → Bool). reach_above m x s j) (sym e) (same_set a t k) ∙ sym (tree.1 j);
     }
 
--- no bit
-pub lifted_none : (n x : ℕ) (a : Need) → n ≡ 0 → LiftedTo n x a a
-lifted_none n x a e = subst (λ (m : ℕ). LiftedTo m x a a) (sym e) (record { number = refl; members = λ k. refl })
-
--- one bit, and the next hop of the other side does not reach the count: all that do, and it
-pub lifted_wider : (n x : ℕ) (a r : Need) → n ≡ 1 → among a x ≡ false → r.count ≡ need_with a x → ((k : ℕ) → among r k ≡ (among a k || eqb k x)) → LiftedTo n x a r
-lifted_wider n x a r e o c m =
-    subst (λ (w : ℕ). LiftedTo w x a r) (sym e) (record { number = c; members = λ k. m k ∙ sym (cond-false _ _ _ o) })
-
--- else it alone
-pub lifted_alone : (n x : ℕ) (a r : Need) → (n ≡ 0 → ⊥) → (n ≡ 1 → among a x ≡ true) → r.count ≡ need_with a x → ((k : ℕ) → among r k ≡ eqb k x) → LiftedTo n x a r
-lifted_alone zero x a r z o c m = absurd (z refl)
-lifted_alone (suc zero) x a r z o c m = record { number = c; members = λ k. m k ∙ sym (cond-true _ _ _ (o refl)) }
-lifted_alone (suc (suc n)) x a r z o c m = record { number = c; members = m }
-
 -- THE CHOICE
 
-pub chosen_lines : (a b : Need) (h : ℕ) (c : Choice) → Chooses (among a) (among b) h c →
+-- the lowest of what both sets have, where neither has h
+pub lowest_chooses : (a b : Need) (s : HopSet) (h : ℕ) (c : Option ℕ) → Lowest s c → ((k : ℕ) → has s k ≡ (among a k && among b k)) → (among a h || among b h) ≡ false →
+    Chooses (among a) (among b) h c
+lowest_chooses a b s h None l m n = λ k e. absurd (both_ways _ (l k) (m k ∙ e))
+lowest_chooses a b s h (Some k) l m n = (sym (m k) ∙ l.0, λ j e. l.1 j (m j ∙ e), n)
+
+pub chosen_lines : (a b : Need) (h : ℕ) (c : Option ℕ) → Chooses (among a) (among b) h c →
     (low high : Tree) → Keeps a low → Keeps b high → prescribed (Fork low high) h ≡ lines_by c h (prescribed low) (prescribed high)
 chosen_lines a b h c s low high p q =
     (chosen low high h).1 c
@@ -104,10 +92,3 @@ pub along_lines : (n : Need) (w x h : ℕ) (c : Along) → c ≡ along w x (amon
 along_lines n w x h c e bs t l k =
     edge_lines x bs t h ∙
     ap (λ (d : Along). between d x h bs (prescribed t)) (ap₂ (λ (m : ℕ) (s : ℕ → Bool). along m x s h) l (sym (same_set n t k)) ∙ sym e)
-
--- what is written, by the tests of the code
-pub along_nothing : (w x h : ℕ) (s : ℕ → Bool) → (eqb w 0 || eqb h x) ≡ true → Nothing ≡ along w x s h
-along_nothing w x h s e = sym (cond-true _ _ _ e)
-
-pub along_written : (w x h : ℕ) (s : ℕ → Bool) (q : Bool) → (w ≡ 0 → ⊥) → (h ≡ x → ⊥) → aside w (s x) (s h) ≡ q → cond q Sides Top ≡ along w x s h
-along_written w x h s q z n e = sym (cond-false _ _ _ (or_from _ _ (ne_eqb w 0 z) (ne_eqb h x n)) ∙ ap (λ (b : Bool). cond b Sides Top) e)

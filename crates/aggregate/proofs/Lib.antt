@@ -1,4 +1,3 @@
-pub mod Digits
 pub mod Members
 pub mod Keeping
 pub mod Sides

@@ -1,7 +1,8 @@
 -- The routes along an edge. Assumes nothing.
-use Rattle.std.proofs.Common.{◌≡◌, ℕ, zero, suc, ◌-◌, ◌<◌, ◌≤◌, Bool, true, false, cond, ◌||◌, eqb, [], ◌∷◌, ◌++◌, length, take, drop, Some, None, Option, sym, refl, ap, ◌∙◌, subst, ap₂, append-nil, arith, length-drop, take-append-drop}
+use Rattle.std.proofs.Common.{◌≡◌, ℕ, zero, suc, ◌<◌, ◌≤◌, Bool, true, false, cond, not, ◌||◌, eqb, [], ◌∷◌, ◌++◌, length, take, drop, Some, None, Option, sym, refl, ap, ◌∙◌, subst, ap₂, append-nil, arith, length-drop, take-append-drop}
 use Rattle.std.specs.List.{slice_get}
 use Rattle.prefix.specs.Bits.{Bits}
+use Rattle.prefix.specs.Model.{bits}
 use Rattle.table.specs.declared.route.Route.{Route}
 use Rattle.table.specs.Examples.{line}
 use Rattle.table.specs.Tables.{Entries}
@@ -12,9 +13,10 @@ use Rattle.fewest.specs.Prescribed.{beneath, prescribed}
 use Rattle.fewest.specs.Edges.{along, onward, sides_before, sides_after, lines_before, lines_after}
 use Rattle.fewest.proofs.Halves.{beneath_append, beneath_beneath, beneath_empty, beneath_line}
 use Rattle.aggregate.specs.declared.need.Need.{Need}
+use Rattle.aggregate.specs.declared.edge.Edge.{Edge}
 use Rattle.aggregate.specs.declared.edge.EdgeRoutes.{EdgeRoutes}
 use Rattle.aggregate.specs.Model.{among, Keeps}
-use Rattle.aggregate.specs.Routes.{line_of, lines_of, Brought, Surrounds}
+use Rattle.aggregate.specs.Routes.{over, way, edge_len, line_of, lines_of, sides, side_at, Brought, Surrounds}
 use Rattle.aggregate.proofs.Keeping.{along_lines}
 
 -- ONE BIT
@@ -23,131 +25,131 @@ use Rattle.aggregate.proofs.Keeping.{along_lines}
 pub bit_past : (p : Bits) (i : ℕ) → None ≡ slice_get p i → take 1 (drop i p) ≡ []
 bit_past [] zero e = refl
 bit_past [] (suc i) e = refl
-bit_past (b ∷ p) zero e = let z : ◌≡◌ {A = ℕ} 0 1 = cc in absurd (omega arith)
+bit_past (b ∷ p) zero e = cc
 bit_past (b ∷ p) (suc i) e = bit_past p i e
 
 pub bit_at : (p : Bits) (i : ℕ) (b : Bool) → Some b ≡ slice_get p i → take 1 (drop i p) ≡ b ∷ []
-bit_at [] i b e = let z : ◌≡◌ {A = ℕ} 0 1 = cc in absurd (omega arith)
+bit_at [] i b e = cc
 bit_at (c ∷ p) zero b e = let s : c ≡ b = cc in ap (λ (d : Bool). d ∷ []) s
 bit_at (c ∷ p) (suc i) b e = bit_at p i b e
 
-pub bit_within : (p : Bits) (i : ℕ) (b : Bool) → Some b ≡ slice_get p i → i < length p
-bit_within [] i b e = let z : ◌≡◌ {A = ℕ} 0 1 = cc in absurd (omega arith)
-bit_within (c ∷ p) zero b e = omega arith
-bit_within (c ∷ p) (suc i) b e = omega (arith, bit_within p i b e)
-
--- the lines on its other side, before it and after it: there are none where there is no bit,
-pub none_aside : (x : ℕ) (q d : Bits) → d ≡ [] → ([] ≡ beneath q (sides_before x d)) × ([] ≡ beneath q (sides_after x d))
+-- the line on its other side: there is none where there is no bit,
+pub none_aside : (b : Bool) (x : ℕ) (q d : Bits) → d ≡ [] → [] ≡ beneath q (sides b x d)
 unfolding sides_before sides_after beneath
-none_aside x q d e = (rw e, rw e)
+none_aside true x q d e = rw e
+none_aside false x q d e = rw e
 
--- one before a bit 1,
-pub aside_one : (x : ℕ) (q d : Bits) → d ≡ true ∷ [] → (line (q ++ (false ∷ [])) x ∷ [] ≡ beneath q (sides_before x d)) × ([] ≡ beneath q (sides_after x d))
+-- none before a bit 0 and none after a bit 1,
+pub other_aside : (b c : Bool) (x : ℕ) (q d : Bits) → d ≡ c ∷ [] → (c ≡ b → ⊥) → [] ≡ beneath q (sides b x d)
 unfolding sides_before sides_after beneath
-aside_one x q d e = (rw e, rw e)
+other_aside true true x q d e n = absurd (n refl)
+other_aside true false x q d e n = rw e
+other_aside false true x q d e n = rw e
+other_aside false false x q d e n = absurd (n refl)
 
--- and one after a bit 0
-pub aside_zero : (x : ℕ) (q d : Bits) → d ≡ false ∷ [] → ([] ≡ beneath q (sides_before x d)) × (line (q ++ (true ∷ [])) x ∷ [] ≡ beneath q (sides_after x d))
+-- and one before a bit 1 and after a bit 0
+pub own_aside : (b : Bool) (x : ℕ) (q d : Bits) → d ≡ b ∷ [] → line (q ++ (not b ∷ [])) x ∷ [] ≡ beneath q (sides b x d)
 unfolding sides_before sides_after beneath
-aside_zero x q d e = (rw e, rw e)
+own_aside true x q d e = rw e
+own_aside false x q d e = rw e
 
 -- ONE OR TWO BITS
 
--- the lines aside before some bits, or after them,
-abbrev pub sides : Bool → ℕ → Bits → Entries
-sides false x bs = sides_before x bs
-sides true x bs = sides_after x bs
-
--- and two lists of lines in their order: after the bits, those of the second bit come first
+-- two lists of lines in their order: after the bits, those of the second bit come first
 abbrev ordered : Bool → Entries → Entries → Entries
-ordered false s t = s ++ t
-ordered true s t = t ++ s
+ordered true s t = s ++ t
+ordered false s t = t ++ s
 
 beneath_ordered : (f : Bool) (p : Bits) (s t : Entries) → beneath p (ordered f s t) ≡ ordered f (beneath p s) (beneath p t)
-beneath_ordered false p s t = beneath_append p s t
-beneath_ordered true p s t = beneath_append p t s
+beneath_ordered true p s t = beneath_append p s t
+beneath_ordered false p s t = beneath_append p t s
 
 -- the lines on the other side of the bit at a place
-abbrev pub side_at : Bool → ℕ → Bits → ℕ → Entries
-side_at f x p i = beneath (take i p) (sides f x (take 1 (drop i p)))
+abbrev side_in : Bool → ℕ → Bits → ℕ → Entries
+side_in f x p i = beneath (take i p) (sides f x (take 1 (drop i p)))
 
 -- the lines aside of one or two bits are those of the first and those of the second
 sides_two : (f : Bool) (x i : ℕ) (p : Bits) → 0 < length (drop i p) → length (drop i p) ≤ 2 →
-    beneath (take i p) (sides f x (drop i p)) ≡ ordered f (side_at f x p i) (side_at f x p (suc i))
+    beneath (take i p) (sides f x (drop i p)) ≡ ordered f (side_in f x p i) (side_in f x p (suc i))
 sides_two f x (suc i) [] l m = absurd (omega arith)
 sides_two f x (suc i) (b ∷ p) l m =
     sym (beneath_beneath (b ∷ []) (take i p) (sides f x (drop i p))) ∙
     ap (beneath (b ∷ [])) (sides_two f x i p l m) ∙
-    beneath_ordered f (b ∷ []) (side_at f x p i) (side_at f x p (suc i)) ∙
+    beneath_ordered f (b ∷ []) (side_in f x p i) (side_in f x p (suc i)) ∙
     ap₂ (ordered f) (beneath_beneath (b ∷ []) (take i p) (sides f x (take 1 (drop i p)))) (beneath_beneath (b ∷ []) (take (suc i) p) (sides f x (take 1 (drop (suc i) p))))
 sides_two f x zero [] l m = absurd (omega arith)
-sides_two false x zero (false ∷ []) l m = unfold sides_before beneath in refl
-sides_two false x zero (true ∷ []) l m = unfold sides_before beneath in refl
-sides_two false x zero (false ∷ false ∷ []) l m = unfold sides_before beneath in refl
-sides_two false x zero (false ∷ true ∷ []) l m = unfold sides_before beneath in refl
-sides_two false x zero (true ∷ false ∷ []) l m = unfold sides_before beneath in refl
-sides_two false x zero (true ∷ true ∷ []) l m = unfold sides_before beneath in refl
-sides_two true x zero (false ∷ []) l m = unfold sides_after beneath in refl
-sides_two true x zero (true ∷ []) l m = unfold sides_after beneath in refl
-sides_two true x zero (false ∷ false ∷ []) l m = unfold sides_after beneath in refl
-sides_two true x zero (false ∷ true ∷ []) l m = unfold sides_after beneath in refl
-sides_two true x zero (true ∷ false ∷ []) l m = unfold sides_after beneath in refl
-sides_two true x zero (true ∷ true ∷ []) l m = unfold sides_after beneath in refl
+sides_two true x zero (false ∷ []) l m = unfold sides_before beneath in refl
+sides_two true x zero (true ∷ []) l m = unfold sides_before beneath in refl
+sides_two true x zero (false ∷ false ∷ []) l m = unfold sides_before beneath in refl
+sides_two true x zero (false ∷ true ∷ []) l m = unfold sides_before beneath in refl
+sides_two true x zero (true ∷ false ∷ []) l m = unfold sides_before beneath in refl
+sides_two true x zero (true ∷ true ∷ []) l m = unfold sides_before beneath in refl
+sides_two false x zero (false ∷ []) l m = unfold sides_after beneath in refl
+sides_two false x zero (true ∷ []) l m = unfold sides_after beneath in refl
+sides_two false x zero (false ∷ false ∷ []) l m = unfold sides_after beneath in refl
+sides_two false x zero (false ∷ true ∷ []) l m = unfold sides_after beneath in refl
+sides_two false x zero (true ∷ false ∷ []) l m = unfold sides_after beneath in refl
+sides_two false x zero (true ∷ true ∷ []) l m = unfold sides_after beneath in refl
 sides_two f x zero (a ∷ b ∷ c ∷ p) l m = absurd (omega arith)
 
 -- lines stand aside only of one or two bits
 pub along_sides : (n x : ℕ) (s : ℕ → Bool) (h : ℕ) → Sides ≡ along n x s h → (0 < n) × (n ≤ 2)
-along_sides zero x s h e = let z : ◌≡◌ {A = ℕ} 0 1 = cc in absurd (omega arith)
+along_sides zero x s h e = cc
 along_sides (suc zero) x s h e = (omega arith, omega arith)
 along_sides (suc (suc zero)) x s h e = (omega arith, omega arith)
 along_sides (suc (suc (suc n))) x s h e = absurd (no_sides (eqb (suc (suc (suc n))) 0 || eqb h x) e)
   where
     no_sides : (b : Bool) → Sides ≡ cond b Nothing Top → ⊥
-    no_sides true e = let z : ◌≡◌ {A = ℕ} 0 1 = cc in omega arith
-    no_sides false e = let z : ◌≡◌ {A = ℕ} 0 1 = cc in omega arith
+    no_sides true e = cc
+    no_sides false e = cc
 
 -- THE WHOLE EDGE
 
--- the choice along the bits that the code has counted
-pub counted : (c : Along) (p : Bits) (i x h m n : ℕ) (s : ℕ → Bool) → c ≡ along n x s h → n ≡ m - i → m ≡ length p → c ≡ along (length p - i) x s h
-counted c p i x h m n s e f g = e ∙ ap (λ (w : ℕ). along w x s h) (f ∙ ap (λ (w : ℕ). w - i) g)
+module _ (e : Edge) (h : ℕ) (n : Need) (r : EdgeRoutes) where
+  surrounds : (c : Along) → c ≡ along (edge_len e) e.hop (among n) h → Brought e h c r → (t : Tree) → Keeps n t → Surrounds e h r t
+  surrounds c i b t k =
+      let u : Entries = prescribed t (onward c e.hop h) in
+      record {
+        whole =
+            ap (beneath (over e)) (along_lines n (edge_len e) e.hop h c i (way e) t (length-drop e.from (bits e.node)) k) ∙
+            beneath_append (over e) (lines_before c e.hop (way e)) (beneath (way e) u ++ lines_after c e.hop (way e)) ∙
+            ap₂ (λ (s v : Entries). s ++ v) (sym b.earlier)
+            (beneath_append (over e) (beneath (way e) u) (lines_after c e.hop (way e)) ∙
+            ap₂ (λ (s v : Entries). s ++ v)
+            (beneath_beneath (over e) (way e) u ∙ ap₂ (λ (q : Bits) (j : ℕ). beneath q (prescribed t j)) (take-append-drop e.from (bits e.node)) (sym b.on))
+            (sym b.later));
+      }
 
-pub surrounds : (p : Bits) (i x h : ℕ) (n : Need) (c : Along) (r : EdgeRoutes) → c ≡ along (length p - i) x (among n) h → Brought p i x h c r →
-    (t : Tree) → Keeps n t → Surrounds p i x h r t
-surrounds p i x h n c r e b t k =
-    let u : Entries = prescribed t (onward c x h) in
-    record {
-      whole =
-          ap (beneath (take i p)) (along_lines n (length p - i) x h c e (drop i p) t (length-drop i p) k) ∙
-          beneath_append (take i p) (lines_before c x (drop i p)) (beneath (drop i p) u ++ lines_after c x (drop i p)) ∙
-          ap₂ (λ (s v : Entries). s ++ v) (sym b.earlier)
-          (beneath_append (take i p) (beneath (drop i p) u) (lines_after c x (drop i p)) ∙
-          ap₂ (λ (s v : Entries). s ++ v)
-          (beneath_beneath (take i p) (drop i p) u ∙ ap₂ (λ (q : Bits) (j : ℕ). beneath q (prescribed t j)) (take-append-drop i p) (sym b.on))
-          (sym b.later));
-    }
+  -- what the code promises, if it brings what is written along the edge
+  pub record Routed : Type 0 where
+    pub value : Brought e h (along (edge_len e) e.hop (among n) h) r
+    pub lines : (t : Tree) → Keeps n t → Surrounds e h r t
 
--- what the code brings, case by case
-pub brought_at : (p : Bits) (i x h : ℕ) (c d : Along) (r : EdgeRoutes) → c ≡ d → Brought p i x h c r → Brought p i x h d r
-brought_at p i x h c d r e b = subst (λ (a : Along). Brought p i x h a r) e b
+  routed : (c : Along) → c ≡ along (edge_len e) e.hop (among n) h → Brought e h c r → Routed
+  routed c i b = record { value = subst (λ (a : Along). Brought e h a r) i b; lines = surrounds c i b }
 
-pub nothing_brought : (p : Bits) (i x h : ℕ) (r : EdgeRoutes) → lines_of r.before ≡ [] → lines_of r.after ≡ [] → r.onward ≡ h → Brought p i x h Nothing r
-nothing_brought p i x h r b a o = record { earlier = b ∙ sym (beneath_empty (take i p)); later = a ∙ sym (beneath_empty (take i p)); on = o }
+  -- case by case
+  pub nothing_routed : Nothing ≡ along (edge_len e) e.hop (among n) h → lines_of r.before ≡ [] → lines_of r.after ≡ [] → r.onward ≡ h → Routed
+  nothing_routed i b a o = routed Nothing i (record { earlier = b ∙ sym (beneath_empty (over e)); later = a ∙ sym (beneath_empty (over e)); on = o })
 
-pub top_brought : (p : Bits) (i x h : ℕ) (r : EdgeRoutes) → lines_of r.before ≡ line (take i p) x ∷ [] → lines_of r.after ≡ [] → r.onward ≡ x → Brought p i x h Top r
-top_brought p i x h r b a o = record {
-  earlier = b ∙ ap₂ (λ (q : Bits) (s : Entries). line q x ∷ s) (sym (append-nil (take i p))) (sym (beneath_empty (take i p))) ∙ sym (beneath_line (take i p) [] x []);
-  later = a ∙ sym (beneath_empty (take i p));
-  on = o;
-}
+  pub top_routed : Top ≡ along (edge_len e) e.hop (among n) h → lines_of r.before ≡ line (over e) e.hop ∷ [] → lines_of r.after ≡ [] → r.onward ≡ e.hop → Routed
+  top_routed i b a o = routed Top i (record {
+    earlier = b ∙ ap₂ (λ (q : Bits) (s : Entries). line q e.hop ∷ s) (sym (append-nil (over e))) (sym (beneath_empty (over e))) ∙ sym (beneath_line (over e) [] e.hop []);
+    later = a ∙ sym (beneath_empty (over e));
+    on = o;
+  })
 
-pub sides_brought : (p : Bits) (i x h : ℕ) (n : Need) (r : EdgeRoutes) → Sides ≡ along (length p - i) x (among n) h →
-    lines_of r.before ≡ side_at false x p i ++ side_at false x p (suc i) → lines_of r.after ≡ side_at true x p (suc i) ++ side_at true x p i → r.onward ≡ h → Brought p i x h Sides r
-sides_brought p i x h n r e b a o =
-    let short = along_sides (length p - i) x (among n) h e in
-    let some : 0 < length (drop i p) = omega (arith, length-drop i p, short.0) in
-    let few : length (drop i p) ≤ 2 = omega (arith, length-drop i p, short.1) in
-    record { earlier = b ∙ sym (sides_two false x i p some few); later = a ∙ sym (sides_two true x i p some few); on = o }
+  pub sides_routed : Sides ≡ along (edge_len e) e.hop (among n) h → lines_of r.before ≡ side_at e e.from true ++ side_at e (suc e.from) true →
+      lines_of r.after ≡ side_at e (suc e.from) false ++ side_at e e.from false → r.onward ≡ h → Routed
+  sides_routed i b a o =
+      let short = along_sides (edge_len e) e.hop (among n) h i in
+      let some : 0 < length (way e) = omega (arith, length-drop e.from (bits e.node), short.0) in
+      let few : length (way e) ≤ 2 = omega (arith, length-drop e.from (bits e.node), short.1) in
+      routed Sides i (record {
+        earlier = b ∙ sym (sides_two true e.hop e.from (bits e.node) some few);
+        later = a ∙ sym (sides_two false e.hop e.from (bits e.node) some few);
+        on = o;
+      })
 
 -- two routes that are there or not
 pub two_lines : (a b : Option Route) (s t : Entries) → line_of a ≡ s → line_of b ≡ t → lines_of (a ∷ b ∷ []) ≡ s ++ t

@@ -1,5 +1,5 @@
 -- What the needs of the code mean. Assumes nothing.
-use Rattle.std.specs.Prelude.{◌≡◌, ℕ, zero, suc, ◌+◌, ◌-◌, ◌^◌, min, Bool, true, false, cond, ◌&&◌, ◌||◌, ◌==◌}
+use Rattle.std.specs.Prelude.{◌≡◌, ℕ, zero, suc, ◌+◌, ◌-◌, ◌^◌, min, Bool, true, false, if◌then◌else◌, ◌&&◌, ◌||◌, ◌==◌}
 use Rattle.fewest.specs.Trees.{Tree}
 use Rattle.fewest.specs.Needs.{least, reaches}
 use Rattle.fewest.specs.Edges.{reach_above}
@@ -21,7 +21,7 @@ pub record Keeps (n : Need) (t : Tree) : Type 0 where
 
 -- what a need says for one who comes with h
 abbrev pub need_with : Need → ℕ → ℕ
-need_with n h = cond (among n h) n.count (capped (n.count + 1))
+need_with n h = (if among n h then n.count else capped (n.count + 1))
 
 -- the need where all addresses go to x
 pub record UniformTo (x : ℕ) (n : Need) : Type 0 where

@@ -4,24 +4,19 @@ ghost use Rattle.fewest.specs.Prescribed.{prescribed};
 ghost use Rattle.fewest.specs.Laws.{Chooses, lines_by};
 ghost use Rattle.aggregate.specs.Model.{Keeps, among};
 
-use crate::hops;
 use crate::need::Need;
-use fewest::Choice;
 use table::NextHop;
 
-// What is written at a place whose halves need so many lines, for one who comes to it with a given next hop.
-// A line saves one only where both halves can do with the same next hop and neither with the given one; then the lowest is taken.
-pub fn choose(low: &Need, high: &Need, given: NextHop) -> Choice
+// The next hop of the line that is written at a place whose halves need so many lines, for one who comes to it with a given next hop; none where
+// no line is written. A line saves one only where both halves can do with the same next hop and neither with the given one; then the lowest is taken.
+pub fn choose(low: &Need, high: &Need, given: NextHop) -> Option<NextHop>
     ensures value { Chooses (among low.now) (among high.now) given result }
     ensures lines { (l h : Tree) → Keeps low.now l → Keeps high.now h → prescribed (Fork l h) given ≡ lines_by result given (prescribed l) (prescribed h) }
 {
-    let shared = hops::meet(&low.hops, &high.hops);
-    let either = hops::union(&low.hops, &high.hops);
-    if hops::contains(&either, given) {
-        return Choice::Stay;
-    }
-    match hops::lowest(&shared) {
-        Some(hop) => Choice::Line(hop),
-        None => Choice::Stay,
+    // both are asked, since a branch between them would often be guessed wrong
+    if low.reaches(given) | high.reaches(given) {
+        None
+    } else {
+        (low.hops & high.hops).lowest()
     }
 }

@@ -1,57 +1,89 @@
-ghost use Rattle.std.specs.Prelude.{◌≡◌, ℕ, ◌&&◌, ◌||◌, ◌==◌};
+ghost use Rattle.std.specs.Prelude.{◌≡◌, ℕ, ◌&&◌, ◌||◌, ◌==◌, if◌then◌else◌};
 ghost use Rattle.aggregate.specs.Sets.{Empty, Lowest, has};
 
+use std::array;
+use std::ops::{BitAnd, BitOr};
 use table::NextHop;
 
 // A set of next hops: a bit for each of the 256, in four words.
-pub type HopSet = [u64; 4];
-
-// The set of one next hop.
-pub fn only(hop: NextHop) -> HopSet
-    ensures { (k : ℕ) → has result k ≡ (k == hop) }
-{
-    let mut words = [0; 4];
-    words[(hop / 64) as usize] = 1 << (hop % 64);
-    words
+#[derive(Clone, Copy, PartialEq, Eq, Debug)]
+pub struct HopSet {
+    words: [u64; 4],
 }
 
-// Whether a next hop is in a set.
-pub fn contains(set: &HopSet, hop: NextHop) -> bool
-    ensures { result ≡ has set.now hop }
-{
-    (set[(hop / 64) as usize] >> (hop % 64)) % 2 == 1
+impl HopSet {
+    // The set of one next hop.
+    pub fn only(hop: NextHop) -> HopSet
+        ensures { (k : ℕ) → has result k ≡ (k == hop) }
+    {
+        let mut words = [0; 4];
+        words[(hop / 64) as usize] = 1 << (hop % 64);
+        HopSet { words }
+    }
+
+    // Whether a next hop is in the set.
+    pub fn contains(&self, hop: NextHop) -> bool
+        ensures { result ≡ has self.now hop }
+    {
+        (self.words[(hop / 64) as usize] >> (hop % 64)) % 2 == 1
+    }
+
+    // Whether the set has no next hop.
+    pub fn is_empty(&self) -> bool
+        ensures { Empty self.now result }
+    {
+        let [a, b, c, d] = self.words;
+        a | b | c | d == 0
+    }
+
+    // The lowest next hop of the set, if it has one: the lowest bit of the first word that is not 0.
+    pub fn lowest(&self) -> Option<NextHop>
+        ensures { Lowest self.now result }
+    {
+        for (i, word) in self.words.iter().enumerate() {
+            if *word != 0 {
+                return Some((64 * i) as u8 + word.trailing_zeros() as u8);
+            }
+        }
+        None
+    }
+
+    // This set, or in its place the other. There is no branch: which of them is asked for is often as good as random, and would be guessed wrong.
+    pub(crate) fn or_if(self, replaced: bool, other: HopSet) -> HopSet
+        ensures { (k : ℕ) → has result k ≡ (if replaced then has other k else has self k) }
+    {
+        HopSet {
+            words: array::from_fn(|i| if replaced {
+                other.words[i]
+            } else {
+                self.words[i]
+            }),
+        }
+    }
 }
 
 // The next hops that both sets have.
-pub fn meet(a: &HopSet, b: &HopSet) -> HopSet
-    ensures { (k : ℕ) → has result k ≡ (has a.now k && has b.now k) }
-{
-    [a[0] & b[0], a[1] & b[1], a[2] & b[2], a[3] & b[3]]
+impl BitAnd for HopSet {
+    type Output = HopSet;
+
+    ghost bitand_gives = { λ a b met. (k : ℕ) → has met k ≡ (has a k && has b k) };
+
+    fn bitand(self, other: HopSet) -> HopSet {
+        HopSet {
+            words: array::from_fn(|i| self.words[i] & other.words[i]),
+        }
+    }
 }
 
 // The next hops that one or the other set has.
-pub fn union(a: &HopSet, b: &HopSet) -> HopSet
-    ensures { (k : ℕ) → has result k ≡ (has a.now k || has b.now k) }
-{
-    [a[0] | b[0], a[1] | b[1], a[2] | b[2], a[3] | b[3]]
-}
+impl BitOr for HopSet {
+    type Output = HopSet;
 
-// Whether a set has no next hop.
-pub fn is_empty(set: &HopSet) -> bool
-    ensures { Empty set.now result }
-{
-    (set[0] | set[1] | set[2] | set[3]) == 0
-}
+    ghost bitor_gives = { λ a b joined. (k : ℕ) → has joined k ≡ (has a k || has b k) };
 
-// The lowest next hop of a set, if it has one: the lowest bit of the first word that is not 0.
-pub fn lowest(set: &HopSet) -> Option<NextHop>
-    ensures { Lowest set.now result }
-{
-    for i in 0..4 {
-        let word = set[i];
-        if word != 0 {
-            return Some((64 * i) as u8 + word.trailing_zeros() as u8);
+    fn bitor(self, other: HopSet) -> HopSet {
+        HopSet {
+            words: array::from_fn(|i| self.words[i] | other.words[i]),
         }
     }
-    None
 }

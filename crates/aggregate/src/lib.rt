@@ -3,10 +3,10 @@
 
 mod choice;
 mod edge;
-pub mod hops;
+mod hops;
 mod need;
 
 pub use choice::choose;
-pub use edge::{EdgeRoutes, edge_routes};
+pub use edge::{Edge, EdgeRoutes};
 pub use hops::HopSet;
 pub use need::Need;

@@ -5,13 +5,12 @@ ghost use Rattle.fewest.specs.Needs.{need};
 ghost use Rattle.fewest.specs.Edges.{edge};
 ghost use Rattle.aggregate.specs.Model.{JoinedTo, Keeps, LiftedTo, UniformTo, among, capped, need_with};
 
-use crate::hops;
 use crate::hops::HopSet;
 use table::NextHop;
 
 // How few lines a part of the addresses needs: the lowest number over all next hops that one may come with, and the set of those for which it is
 // enough. For any other it is one more. Numbers stop at the highest that the count holds; no table has so many lines.
-#[derive(Clone, Copy, Debug)]
+#[derive(Clone, Copy, PartialEq, Eq, Debug)]
 pub struct Need {
     pub(crate) count: u32,
     pub(crate) hops: HopSet,
@@ -25,7 +24,7 @@ impl Need {
     {
         Need {
             count: 0,
-            hops: hops::only(hop),
+            hops: HopSet::only(hop),
         }
     }
 
@@ -40,7 +39,7 @@ impl Need {
     pub fn reaches(&self, hop: NextHop) -> bool
         ensures { result ≡ among self.now hop }
     {
-        hops::contains(&self.hops, hop)
+        self.hops.contains(hop)
     }
 
     // The lines needed by one who comes with this next hop.
@@ -49,11 +48,7 @@ impl Need {
         ensures needed { (t : Tree) → Keeps self.now t → result ≡ capped (need t hop) }
     {
         let count = self.count;
-        if self.reaches(hop) {
-            count
-        } else {
-            count.saturating_add(1)
-        }
+        count.saturating_add(u32::from(!self.reaches(hop)))
     }
 
     // What two halves need together: this one and the other.
@@ -61,19 +56,12 @@ impl Need {
         ensures value { JoinedTo self.now other.now result }
         ensures keeps { (low high : Tree) → Keeps self.now low → Keeps other.now high → Keeps result (Fork low high) }
     {
+        let shared = self.hops & other.hops;
+        let apart = shared.is_empty();
         let count = self.count.saturating_add(other.count);
-        let shared = hops::meet(&self.hops, &other.hops);
-        let either = hops::union(&self.hops, &other.hops);
-        if hops::is_empty(&shared) {
-            Need {
-                count: count.saturating_add(1),
-                hops: either,
-            }
-        } else {
-            Need {
-                count,
-                hops: shared,
-            }
+        Need {
+            count: count.saturating_add(u32::from(apart)),
+            hops: shared.or_if(apart, self.hops | other.hops),
         }
     }
 
@@ -86,11 +74,11 @@ impl Need {
             return *self;
         }
         let count = self.lines(hop);
-        let beside = hops::only(hop);
+        let beside = HopSet::only(hop);
         if bits == 1 && !self.reaches(hop) {
             return Need {
                 count,
-                hops: hops::union(&self.hops, &beside),
+                hops: self.hops | beside,
             };
         }
         Need {

@@ -65,10 +65,7 @@ fn write_down(heap: Global, needs: &[Vec<Need>]) -> Result<(u32, CheckSum), Allo
         let mut handed = Vec::with_capacity(heap, halves.len())?;
         for (hop, pair) in given.iter().zip(halves.chunks_exact(2)) {
             if let [low, high] = pair {
-                let line = match choose(low, high, *hop) {
-                    fewest::Choice::Line(k) => Some(k),
-                    fewest::Choice::Stay => None
-                };
+                let line = choose(low, high, *hop);
                 lines = lines.saturating_add(u32::from(line.is_some()));
                 let onward = line.unwrap_or(*hop);
                 sum.add(u64::from(onward));

@@ -1,36 +1,33 @@
 // Sets of next hops, needs, choices and edges on worked examples.
-use aggregate::{EdgeRoutes, Need, choose, edge_routes, hops};
-use fewest::{Along, Choice};
+use aggregate::{Edge, EdgeRoutes, HopSet, Need, choose};
+use fewest::Along;
 use prefix::Prefix;
-use std::process::Abort;
 use table::Route;
 
+// A route that is there.
 fn route(network: u32, len: u8, next_hop: u8) -> Option<Route> {
-    Some(Route {
-        prefix: Prefix::host(network).cut(len),
-        next_hop,
-    })
+    Some(samples::route((network, len, next_hop)))
 }
 
 #[test]
 fn sets_have_their_members(rt: HostRuntime) {
-    let low = hops::only(3);
-    let high = hops::only(255);
-    let mixed = hops::union(&low, &hops::union(&high, &hops::only(64)));
-    assert!(rt; hops::contains(&mixed, 3));
-    assert!(rt; hops::contains(&mixed, 64));
-    assert!(rt; hops::contains(&mixed, 255));
-    assert!(rt; !hops::contains(&mixed, 0));
-    assert!(rt; !hops::contains(&mixed, 63));
-    assert_eq!(rt; hops::lowest(&mixed), Some(3));
-    assert_eq!(rt; hops::lowest(&high), Some(255));
-    assert_eq!(rt; hops::lowest(&hops::only(0)), Some(0));
-    let none = hops::meet(&low, &high);
-    assert!(rt; hops::is_empty(&none));
-    assert_eq!(rt; hops::lowest(&none), None);
-    let shared = hops::meet(&mixed, &hops::union(&high, &hops::only(192)));
-    assert!(rt; !hops::is_empty(&shared));
-    assert_eq!(rt; hops::lowest(&shared), Some(255));
+    let low = HopSet::only(3);
+    let high = HopSet::only(255);
+    let mixed = low | high | HopSet::only(64);
+    assert!(rt; mixed.contains(3));
+    assert!(rt; mixed.contains(64));
+    assert!(rt; mixed.contains(255));
+    assert!(rt; !mixed.contains(0));
+    assert!(rt; !mixed.contains(63));
+    assert_eq!(rt; mixed.lowest(), Some(3));
+    assert_eq!(rt; high.lowest(), Some(255));
+    assert_eq!(rt; HopSet::only(0).lowest(), Some(0));
+    let none = low & high;
+    assert!(rt; none.is_empty());
+    assert_eq!(rt; none.lowest(), None);
+    let shared = mixed & (high | HopSet::only(192));
+    assert!(rt; !shared.is_empty());
+    assert_eq!(rt; shared.lowest(), Some(255));
 }
 
 #[test]
@@ -48,11 +45,11 @@ fn four_quarters_need_three_lines(rt: HostRuntime) {
     assert_eq!(rt; whole.lines(1), 2);
     assert_eq!(rt; whole.lines(0), 3);
     // so a line for all addresses saves one, with the lower next hop
-    assert_eq!(rt; choose(&half, &half, 0), Choice::Line(1));
-    assert_eq!(rt; choose(&half, &half, 2), Choice::Stay);
+    assert_eq!(rt; choose(&half, &half, 0), Some(1));
+    assert_eq!(rt; choose(&half, &half, 2), None);
     // and at the quarters none is written
-    assert_eq!(rt; choose(&one, &two, 1), Choice::Stay);
-    assert_eq!(rt; choose(&one, &two, 9), Choice::Stay);
+    assert_eq!(rt; choose(&one, &two, 1), None);
+    assert_eq!(rt; choose(&one, &two, 9), None);
 }
 
 #[test]
@@ -60,10 +57,10 @@ fn no_line_where_one_half_can_do_with_what_comes(rt: HostRuntime) {
     // 00 to 1, 01 dropped, 1 to 1: a line for all addresses with 1 would save nothing
     let low = Need::uniform(1).join(&Need::uniform(0));
     let high = Need::uniform(1);
-    assert_eq!(rt; choose(&low, &high, 0), Choice::Stay);
+    assert_eq!(rt; choose(&low, &high, 0), None);
     assert_eq!(rt; low.join(&high).lines(0), 2);
     // one who comes with another next hop than both gets it
-    assert_eq!(rt; choose(&low, &high, 5), Choice::Line(1));
+    assert_eq!(rt; choose(&low, &high, 5), Some(1));
 }
 
 #[test]
@@ -100,76 +97,81 @@ fn needs_above_edges(rt: HostRuntime) {
     assert_eq!(rt; dropped.along(2, 1, 9), Along::Top);
     assert_eq!(rt; dropped.along(3, 1, 1), Along::Nothing);
     assert_eq!(rt; dropped.along(0, 1, 9), Along::Nothing);
+    let edge = Edge {
+        node: Prefix::host(0).cut(24),
+        from: 16,
+        hop: 1,
+    };
+    assert_eq!(rt; edge.len(), 8);
+    assert_eq!(rt; Edge { from: 25, ..edge }.len(), 0);
 }
 
-fn check_routes(
-    rt: &impl Abort,
-    found: EdgeRoutes,
-    before: [Option<Route>; 2],
-    after: [Option<Route>; 2],
-    onward: u8,
-) {
-    assert_eq!(rt; found.before[0], before[0]);
-    assert_eq!(rt; found.before[1], before[1]);
-    assert_eq!(rt; found.after[0], after[0]);
-    assert_eq!(rt; found.after[1], after[1]);
-    assert_eq!(rt; found.onward, onward);
+// The routes along an edge down to a node that drops, for one who comes with a given next hop.
+fn brought(node: Prefix, from: u8, hop: u8, given: u8) -> EdgeRoutes {
+    let edge = Edge { node, from, hop };
+    edge.routes(&Need::uniform(0), given)
 }
 
 #[test]
 fn routes_along_edges(rt: HostRuntime) {
-    let dropped = Need::uniform(0);
     // all to 1 but 0/1, 0/2 or 0/3, from an empty device
-    check_routes(
-        &rt,
-        edge_routes(Prefix::host(0).cut(1), 0, 1, &dropped, 0),
-        [None, None],
-        [None, route(0x8000_0000, 1, 1)],
-        0,
+    assert_eq!(rt;
+        brought(Prefix::host(0).cut(1), 0, 1, 0),
+        EdgeRoutes {
+            before: [None, None],
+            after: [None, route(0x8000_0000, 1, 1)],
+            onward: 0,
+        }
     );
-    check_routes(
-        &rt,
-        edge_routes(Prefix::host(0).cut(2), 0, 1, &dropped, 0),
-        [None, None],
-        [route(0x4000_0000, 2, 1), route(0x8000_0000, 1, 1)],
-        0,
+    assert_eq!(rt;
+        brought(Prefix::host(0).cut(2), 0, 1, 0),
+        EdgeRoutes {
+            before: [None, None],
+            after: [route(0x4000_0000, 2, 1), route(0x8000_0000, 1, 1)],
+            onward: 0,
+        }
     );
-    check_routes(
-        &rt,
-        edge_routes(Prefix::host(0).cut(3), 0, 1, &dropped, 0),
-        [route(0, 0, 1), None],
-        [None, None],
-        1,
+    assert_eq!(rt;
+        brought(Prefix::host(0).cut(3), 0, 1, 0),
+        EdgeRoutes {
+            before: [route(0, 0, 1), None],
+            after: [None, None],
+            onward: 1,
+        }
     );
     // and but 192/2: the other sides come before it
-    check_routes(
-        &rt,
-        edge_routes(Prefix::host(0xc000_0000).cut(2), 0, 1, &dropped, 0),
-        [route(0, 1, 1), route(0x8000_0000, 2, 1)],
-        [None, None],
-        0,
+    assert_eq!(rt;
+        brought(Prefix::host(0xc000_0000).cut(2), 0, 1, 0),
+        EdgeRoutes {
+            before: [route(0, 1, 1), route(0x8000_0000, 2, 1)],
+            after: [None, None],
+            onward: 0,
+        }
     );
     // the last two bits of an address, of which the first is 1 and the second 0
-    check_routes(
-        &rt,
-        edge_routes(Prefix::host(0x0a00_0002), 30, 7, &dropped, 0),
-        [route(0x0a00_0000, 31, 7), None],
-        [route(0x0a00_0003, 32, 7), None],
-        0,
+    assert_eq!(rt;
+        brought(Prefix::host(0x0a00_0002), 30, 7, 0),
+        EdgeRoutes {
+            before: [route(0x0a00_0000, 31, 7), None],
+            after: [route(0x0a00_0003, 32, 7), None],
+            onward: 0,
+        }
     );
     // no edge at all, from its own end and from beyond it
-    check_routes(
-        &rt,
-        edge_routes(Prefix::host(5), 32, 7, &dropped, 9),
-        [None, None],
-        [None, None],
-        9,
+    assert_eq!(rt;
+        brought(Prefix::host(5), 32, 7, 9),
+        EdgeRoutes {
+            before: [None, None],
+            after: [None, None],
+            onward: 9,
+        }
     );
-    check_routes(
-        &rt,
-        edge_routes(Prefix::host(5), 255, 7, &dropped, 9),
-        [None, None],
-        [None, None],
-        9,
+    assert_eq!(rt;
+        brought(Prefix::host(5), 255, 7, 9),
+        EdgeRoutes {
+            before: [None, None],
+            after: [None, None],
+            onward: 9,
+        }
     );
 }

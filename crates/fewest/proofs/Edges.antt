@@ -1,6 +1,7 @@
 -- Edges: what they do to need, and which lines they bring. Assumes nothing.
-use Rattle.std.proofs.Common.{◌≡◌, ℕ, zero, suc, ◌+◌, ◌≤◌, Bool, true, false, cond, not, ◌&&◌, ◌||◌, eqb, [], ◌∷◌, ◌++◌, length, sym, refl, ap, ◌∙◌, subst, ap₂, append_assoc, append-nil, add-zero, suc-add, zero-add, arith}
+use Rattle.std.proofs.Common.{◌≡◌, ℕ, zero, suc, ◌+◌, ◌≤◌, Bool, true, false, cond, not, ◌&&◌, ◌||◌, eqb, [], ◌∷◌, ◌++◌, length, sym, refl, ap, ◌∙◌, subst, ap₂, append_assoc, append-nil, suc-add, zero-add, arith}
 use Rattle.std.proofs.lemmas.Bool.{or_left, or_right, or_from, or_parts, cond-true, cond-false, cond_both, eq-eqb, eqb-true, and_parts, and_from, and_left, and_right, ne_eqb, not-true, not-false, not_from_true, not_from_false, false≢true}
+use Rattle.std.proofs.Math.Bool.{and_comm, or_comm}
 use Rattle.prefix.specs.Bits.{Bits, begins}
 use Rattle.table.specs.Examples.{line}
 use Rattle.table.specs.Tables.{Entries}
@@ -71,58 +72,46 @@ edge_sends x bs t = (edge_inside x bs t, edge_outside x bs t, edge_fits x bs t)
 
 -- NEED, one bit up
 
-swap_and : (a b : Bool) → (a && b) ≡ (b && a)
-swap_and a b = grind arith
-
-swap_or : (a b : Bool) → (a || b) ≡ (b || a)
-swap_or a b = grind arith
-
 -- what the two halves share is x, if the tree has it
 shared_low : (x : ℕ) (t : Tree) (k : ℕ) → both t (Leaf x) k ≡ (reaches t x && eqb k x)
 shared_low x t k = ap (λ (b : Bool). reaches t k && b) (leaf_reaches x k) ∙ step (eqb k x) refl
   where
     step : (b : Bool) → eqb k x ≡ b → (reaches t k && b) ≡ (reaches t x && b)
     step true e = ap (λ (j : ℕ). reaches t j && true) (eqb-true k x e)
-    step false e = swap_and (reaches t k) false ∙ swap_and false (reaches t x)
+    step false e = and_comm (reaches t k) false ∙ and_comm false (reaches t x)
 
 shared_high : (x : ℕ) (t : Tree) (k : ℕ) → both (Leaf x) t k ≡ (reaches t x && eqb k x)
-shared_high x t k = swap_and (reaches (Leaf x) k) (reaches t k) ∙ shared_low x t k
+shared_high x t k = and_comm (reaches (Leaf x) k) (reaches t k) ∙ shared_low x t k
 
 -- whether they meet
 one_meet : (l r : Tree) (x : ℕ) (c : Bool) → ((k : ℕ) → both l r k ≡ (c && eqb k x)) → meet l r ≡ c
 one_meet l r x true e = meet_from l r x (e x ∙ eq-eqb x x refl)
 one_meet l r x false e = meet_not l r e
 
+-- a fork of a tree and x, whichever stands first
+up_fork : (l r t : Tree) (x : ℕ) → ((k : ℕ) → both l r k ≡ (reaches t x && eqb k x)) → ((k : ℕ) → (reaches l k || reaches r k) ≡ (reaches t k || eqb k x)) →
+    least l + least r ≡ least t → (least (Fork l r) ≡ need t x) × ((k : ℕ) → reaches (Fork l r) k ≡ reach_above 1 x (reaches t) k)
+up_fork l r t x shared either sum = step (reaches t x) refl
+  where
+    step : (c : Bool) → reaches t x ≡ c → (least (Fork l r) ≡ need t x) × ((k : ℕ) → reaches (Fork l r) k ≡ reach_above 1 x (reaches t) k)
+    step true e =
+        let j = (joined l r).0 (one_meet l r x true (λ k. shared k ∙ ap (λ (c : Bool). c && eqb k x) e)) in (
+          j.0 ∙ sum ∙ sym (determined t x ∙ cond-true _ _ _ e),
+          λ k. j.1 k ∙ shared k ∙ ap (λ (c : Bool). c && eqb k x) e ∙ sym (cond-true _ _ _ e),
+        )
+    step false e =
+        let j = (joined l r).1 (one_meet l r x false (λ k. shared k ∙ ap (λ (c : Bool). c && eqb k x) e)) in
+        let n : need t x ≡ suc (least t) = determined t x ∙ cond-false _ _ _ e in (
+          omega (arith, j.0, sum, n),
+          λ k. j.1 k ∙ either k ∙ sym (cond-false _ _ _ e),
+        )
+
 up_one : (x : ℕ) (b : Bool) (t : Tree) → (least (beside x b t) ≡ need t x) × ((k : ℕ) → reaches (beside x b t) k ≡ reach_above 1 x (reaches t) k)
-up_one x false t = step (reaches t x) refl
-  where
-    step : (c : Bool) → reaches t x ≡ c → (least (Fork t (Leaf x)) ≡ need t x) × ((k : ℕ) → reaches (Fork t (Leaf x)) k ≡ reach_above 1 x (reaches t) k)
-    step true e =
-        let j = (joined t (Leaf x)).0 (one_meet t (Leaf x) x true (λ k. shared_low x t k ∙ ap (λ (c : Bool). c && eqb k x) e)) in (
-          j.0 ∙ ap (λ (n : ℕ). least t + n) (leaf_least x) ∙ add-zero (least t) ∙ sym (determined t x ∙ cond-true _ _ _ e),
-          λ k. j.1 k ∙ shared_low x t k ∙ ap (λ (c : Bool). c && eqb k x) e ∙ sym (cond-true _ _ _ e),
-        )
-    step false e =
-        let j = (joined t (Leaf x)).1 (one_meet t (Leaf x) x false (λ k. shared_low x t k ∙ ap (λ (c : Bool). c && eqb k x) e)) in
-        let n : need t x ≡ suc (least t) = determined t x ∙ cond-false _ _ _ e in (
-          omega (arith, j.0, leaf_least x, n),
-          λ k. j.1 k ∙ ap (λ (c : Bool). reaches t k || c) (leaf_reaches x k) ∙ sym (cond-false _ _ _ e),
-        )
-up_one x true t = step (reaches t x) refl
-  where
-    step : (c : Bool) → reaches t x ≡ c → (least (Fork (Leaf x) t) ≡ need t x) × ((k : ℕ) → reaches (Fork (Leaf x) t) k ≡ reach_above 1 x (reaches t) k)
-    step true e =
-        let j = (joined (Leaf x) t).0 (one_meet (Leaf x) t x true (λ k. shared_high x t k ∙ ap (λ (c : Bool). c && eqb k x) e)) in
-        let n : need t x ≡ least t = determined t x ∙ cond-true _ _ _ e in (
-          omega (arith, j.0, leaf_least x, n),
-          λ k. j.1 k ∙ shared_high x t k ∙ ap (λ (c : Bool). c && eqb k x) e ∙ sym (cond-true _ _ _ e),
-        )
-    step false e =
-        let j = (joined (Leaf x) t).1 (one_meet (Leaf x) t x false (λ k. shared_high x t k ∙ ap (λ (c : Bool). c && eqb k x) e)) in
-        let n : need t x ≡ suc (least t) = determined t x ∙ cond-false _ _ _ e in (
-          omega (arith, j.0, leaf_least x, n),
-          λ k. j.1 k ∙ ap (λ (c : Bool). c || reaches t k) (leaf_reaches x k) ∙ swap_or (eqb k x) (reaches t k) ∙ sym (cond-false _ _ _ e),
-        )
+up_one x false t = up_fork t (Leaf x) t x (shared_low x t) (λ k. ap (λ (c : Bool). reaches t k || c) (leaf_reaches x k)) (omega (arith, leaf_least x))
+up_one x true t =
+    up_fork (Leaf x) t t x (shared_high x t)
+    (λ k. ap (λ (c : Bool). c || reaches t k) (leaf_reaches x k) ∙ or_comm (eqb k x) (reaches t k))
+    (omega (arith, leaf_least x))
 
 -- x reaches the lowest need at the upper end of any edge
 above_x : (n x : ℕ) (s : ℕ → Bool) → reach_above (suc n) x s x ≡ true
@@ -154,7 +143,7 @@ writes_beside x false t h =
     ap₂ (λ (a c : Bool). a && not c) (one_meet t (Leaf x) x (reaches t x) (shared_low x t)) (ap (λ (c : Bool). reaches t h || c) (leaf_reaches x h))
 writes_beside x true t h =
     ap₂ (λ (a c : Bool). a && not c) (one_meet (Leaf x) t x (reaches t x) (shared_high x t))
-    (ap (λ (c : Bool). c || reaches t h) (leaf_reaches x h) ∙ swap_or (eqb h x) (reaches t h))
+    (ap (λ (c : Bool). c || reaches t h) (leaf_reaches x h) ∙ or_comm (eqb h x) (reaches t h))
 
 -- with x: nothing is written
 stay_with : (x : ℕ) (b : Bool) (t : Tree) → prescribed (beside x b t) x ≡ beneath (b ∷ []) (prescribed t x)

@@ -2,6 +2,7 @@
 use Rattle.std.proofs.Common.{◌≡◌, ℕ, ◌+◌, ◌<◌, ◌≤◌, min, true, false, eqb, leb, [], ◌∷◌, sym, refl, ap, ◌∙◌, ⊎_elim, arith}
 use Rattle.std.proofs.lemmas.Bool.{or_parts, or_left, or_right, cases_Bool, cond-true, cond-false, cond_both, eqb-true, and_parts, leb-true, leb-false}
 use Rattle.std.proofs.lemmas.Bool.Decides.{nat_tests}
+use Rattle.std.proofs.lemmas.List.Folds.{list_any-append}
 use Rattle.prefix.specs.Bits.{Bits}
 use Rattle.table.specs.Examples.{line}
 use Rattle.table.specs.Tables.{Entries}
@@ -9,20 +10,20 @@ use Rattle.fewest.specs.Trees.{Tree, Leaf, Fork, first, goes, hops, elem, all_to
 use Rattle.fewest.specs.Needs.{unlike, need}
 use Rattle.fewest.specs.Prescribed.{forked, single, below, lowest_below, best, prescribed}
 use Rattle.fewest.specs.Laws.{BestIs}
-use Rattle.fewest.proofs.Lowest.{elem_append, elem_here, elem_one, lowest_elem, lowest_from, Wins, best_wins, best_in}
+use Rattle.fewest.proofs.Lowest.{elem_here, elem_one, lowest_elem, lowest_from, Wins, best_wins, best_in}
 
 -- the next hops of a fork
 pub fork_low : (l r : Tree) (k : ℕ) → elem k (hops l) ≡ true → elem k (hops (Fork l r)) ≡ true
 unfolding hops
-fork_low l r k e = elem_append k (hops l) (hops r) ∙ or_left (elem k (hops l)) (elem k (hops r)) e
+fork_low l r k e = list_any-append _ (hops l) (hops r) ∙ or_left (elem k (hops l)) (elem k (hops r)) e
 
 pub fork_high : (l r : Tree) (k : ℕ) → elem k (hops r) ≡ true → elem k (hops (Fork l r)) ≡ true
 unfolding hops
-fork_high l r k e = elem_append k (hops l) (hops r) ∙ or_right (elem k (hops l)) (elem k (hops r)) e
+fork_high l r k e = list_any-append _ (hops l) (hops r) ∙ or_right (elem k (hops l)) (elem k (hops r)) e
 
 pub fork_out : (l r : Tree) (k : ℕ) → elem k (hops (Fork l r)) ≡ false → (elem k (hops l) ≡ false) × (elem k (hops r) ≡ false)
 unfolding hops
-fork_out l r k e = or_parts (elem k (hops l)) (elem k (hops r)) (sym (elem_append k (hops l) (hops r)) ∙ e)
+fork_out l r k e = or_parts (elem k (hops l)) (elem k (hops r)) (sym (list_any-append _ (hops l) (hops r)) ∙ e)
 
 pub first_in : (t : Tree) → elem (first t) (hops t) ≡ true
 unfolding first hops

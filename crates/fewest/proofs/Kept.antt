@@ -1,11 +1,9 @@
 -- Need by its lowest value and the next hops that reach it; how both come from two halves; the choice in these terms. Assumes nothing.
-use Rattle.std.proofs.Common.{◌≡◌, ℕ, suc, ◌+◌, ◌<◌, ◌≤◌, min, Bool, true, false, cond, not, ◌&&◌, ◌||◌, eqb, ltb, [], ◌∷◌, sym, refl, ap, ◌∙◌, ap₂, ⊎_elim, arith}
+use Rattle.std.proofs.Common.{◌≡◌, ℕ, suc, ◌+◌, ◌<◌, ◌≤◌, min, Bool, true, false, cond, not, ◌&&◌, ◌||◌, eqb, ltb, [], ◌∷◌, Some, None, Option, sym, refl, ap, ◌∙◌, ap₂, ⊎_elim, arith}
 use Rattle.std.proofs.lemmas.Bool.{or_cases, or_left, cases_Bool, cond-true, cond-false, eq-eqb, eqb-true, eqb-false, ne_eqb, and_parts, and_from, both_ways, not-true, not-false, not_from_false, le-ltb, lt-ltb, cases_lt}
 use Rattle.std.proofs.lemmas.Bool.Decides.{nat_tests}
 use Rattle.table.specs.Examples.{line}
 use Rattle.table.specs.Tables.{Entries}
-use Rattle.fewest.specs.declared.choice.Choice.{Choice}
-use Rattle.fewest.specs.declared.choice.Choice.TheVariants.{Stay, Line}
 use Rattle.fewest.specs.Trees.{Tree, Leaf, Fork, first, hops, elem, all_to, uniform}
 use Rattle.fewest.specs.Needs.{unlike, need, least, reaches, both, meet}
 use Rattle.fewest.specs.Prescribed.{beneath, forked, single, below, lowest_below, best, prescribed}
@@ -243,21 +241,13 @@ module _ (l r : Tree) (h : ℕ) (e : uniform (Fork l r) ≡ true) where
   high_all = (and_parts (all_to (first (Fork l r)) l) (all_to (first (Fork l r)) r) e).1
 
   uniform_both : (k : ℕ) → both l r k ≡ eqb k (first (Fork l r))
-  uniform_both k = ap₂ ◌&&◌ ((uniform_kept _ l low_all).1 k) ((uniform_kept _ r high_all).1 k) ∙ twice (eqb k (first (Fork l r)))
-    where
-      twice : (b : Bool) → (b && b) ≡ b
-      twice true = refl
-      twice false = refl
+  uniform_both k = ap₂ ◌&&◌ ((uniform_kept _ l low_all).1 k) ((uniform_kept _ r high_all).1 k) ∙ grind arith
 
   uniform_writes : writes l r h ≡ not (eqb h (first (Fork l r)))
   uniform_writes =
       ap₂ (λ (a b : Bool). a && not b)
       (meet_from l r (first (Fork l r)) (uniform_both (first (Fork l r)) ∙ eq-eqb (first (Fork l r)) (first (Fork l r)) refl))
-      (ap₂ ◌||◌ ((uniform_kept _ l low_all).1 h) ((uniform_kept _ r high_all).1 h) ∙ twice (eqb h (first (Fork l r))))
-    where
-      twice : (b : Bool) → (b || b) ≡ b
-      twice true = refl
-      twice false = refl
+      (ap₂ ◌||◌ ((uniform_kept _ l low_all).1 h) ((uniform_kept _ r high_all).1 h) ∙ grind arith)
 
   -- with its own next hop it has no lines
   uniform_none : (k : ℕ) → eqb k (first (Fork l r)) ≡ true → forked (prescribed l k) (prescribed r k) ≡ []
@@ -286,22 +276,21 @@ writes_line l r h k e b low =
     (λ _. ap (λ (j : ℕ). line [] j ∷ forked (prescribed l j) (prescribed r j)) (best_both l r k b low))
 
 -- the choice, by whether a line is written
-some_choice : (l r : Tree) (h : ℕ) → (b : Bool) → writes l r h ≡ b → (c : Choice) × Chooses (reaches l) (reaches r) h c
+some_choice : (l r : Tree) (h : ℕ) → (b : Bool) → writes l r h ≡ b → (c : Option ℕ) × Chooses (reaches l) (reaches r) h c
 some_choice l r h true e =
     let two = and_parts (meet l r) (not (reaches l h || reaches r h)) e in
-    (Line (best l r), (best_reaches l r two.0, best_least l r two.0, not-true _ two.1))
-some_choice l r h false e = (Stay, λ k i. not-false _ (rest (meet l r) _ (meet_from l r k i) e))
+    (Some (best l r), (best_reaches l r two.0, best_least l r two.0, not-true _ two.1))
+some_choice l r h false e = (None, λ k i. not-false _ (rest (meet l r) _ (meet_from l r k i) e))
   where
     rest : (a b : Bool) → a ≡ true → (a && b) ≡ false → b ≡ false
     rest a b p q = grind arith
 
-by_choice : (l r : Tree) (h : ℕ) (c : Choice) → Chooses (reaches l) (reaches r) h c → prescribed (Fork l r) h ≡ lines_by c h (prescribed l) (prescribed r)
-by_choice l r h Stay s = stays l r h (none (meet l r) (reaches l h || reaches r h) (λ m. let k = meet_some l r m in s k.0 k.1))
+by_choice : (l r : Tree) (h : ℕ) (c : Option ℕ) → Chooses (reaches l) (reaches r) h c → prescribed (Fork l r) h ≡ lines_by c h (prescribed l) (prescribed r)
+by_choice l r h None s = stays l r h (none (meet l r) (reaches l h || reaches r h) (λ m. let k = meet_some l r m in s k.0 k.1))
   where
     none : (a b : Bool) → (a ≡ true → b ≡ true) → (a && not b) ≡ false
-    none true b f = rw (f refl)
-    none false b f = refl
-by_choice l r h (Line k) s = writes_line l r h k (and_from _ _ (meet_from l r k s.0) (not_from_false _ s.2)) s.0 s.1
+    none a b f = grind arith
+by_choice l r h (Some k) s = writes_line l r h k (and_from _ _ (meet_from l r k s.0) (not_from_false _ s.2)) s.0 s.1
 
 pub chosen : Chosen
 chosen l r h = (some_choice l r h (writes l r h) refl, by_choice l r h)

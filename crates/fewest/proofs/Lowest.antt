@@ -1,64 +1,48 @@
 -- The lowest over a list, and the best of a list. Assumes nothing.
-use Rattle.std.proofs.Common.{◌≡◌, ℕ, ◌≤◌, Bool, true, false, cond, ◌||◌, eqb, ◌⊎◌, List, [], ◌∷◌, ◌++◌, refl, ap, inl, inr, ⊎_elim, arith}
+use Rattle.std.proofs.Common.{◌≡◌, ℕ, ◌≤◌, Bool, true, false, cond, ◌||◌, eqb, ◌⊎◌, List, [], ◌∷◌, refl, ap, inl, inr, ⊎_elim, arith}
 use mathlib.Core.Bool.{false≢true}
 use Rattle.std.proofs.lemmas.Bool.{or_cases, or_left, or_right, cond_both, eq-eqb, eqb-true}
 use Rattle.std.proofs.lemmas.Bool.Decides.{nat_tests}
+use Rattle.std.specs.List.{list_any}
 use Rattle.fewest.specs.Trees.{elem}
-use Rattle.fewest.specs.Needs.{lowest_over, some}
+use Rattle.fewest.specs.Needs.{lowest_over}
 use Rattle.fewest.specs.Prescribed.{better, best_of}
 
-pub elem_append : (k : ℕ) (xs ys : List ℕ) → elem k (xs ++ ys) ≡ (elem k xs || elem k ys)
-unfolding elem
-elem_append k [] ys = refl
-elem_append k (x ∷ xs) ys = step (eqb k x) (elem_append k xs ys)
-  where
-    step : (b : Bool) → elem k (xs ++ ys) ≡ (elem k xs || elem k ys) → (b || elem k (xs ++ ys)) ≡ ((b || elem k xs) || elem k ys)
-    step true e = refl
-    step false e = e
-
 pub elem_here : (x : ℕ) (xs : List ℕ) → elem x (x ∷ xs) ≡ true
-unfolding elem
 elem_here x xs = or_left (eqb x x) (elem x xs) (eq-eqb x x refl)
 
 pub elem_one : (k x : ℕ) → elem k (x ∷ []) ≡ eqb k x
-unfolding elem
-elem_one k x = out (eqb k x)
-  where
-    out : (b : Bool) → (b || false) ≡ b
-    out true = refl
-    out false = refl
+elem_one k x = grind arith
 
 -- some element passes a test exactly if one does
-pub some_elem : (f : ℕ → Bool) (xs : List ℕ) → some f xs ≡ true → (k : ℕ) × (elem k xs ≡ true) × (f k ≡ true)
-unfolding some elem
+pub some_elem : (f : ℕ → Bool) (xs : List ℕ) → list_any f xs ≡ true → (k : ℕ) × (elem k xs ≡ true) × (f k ≡ true)
 some_elem f [] e = absurd (false≢true e)
 some_elem f (x ∷ xs) e =
-    let later : some f xs ≡ true → (k : ℕ) × (elem k xs ≡ true) × (f k ≡ true) = some_elem f xs in
+    let later : list_any f xs ≡ true → (k : ℕ) × (elem k xs ≡ true) × (f k ≡ true) = some_elem f xs in
     ⊎_elim
     (λ (i : f x ≡ true). (x, or_left (eqb x x) (elem x xs) (eq-eqb x x refl), i))
-    (λ (i : some f xs ≡ true). let k = later i in (k.0, or_right (eqb k.0 x) (elem k.0 xs) k.1, k.2))
-    (or_cases (f x) (some f xs) e)
+    (λ (i : list_any f xs ≡ true). let k = later i in (k.0, or_right (eqb k.0 x) (elem k.0 xs) k.1, k.2))
+    (or_cases (f x) (list_any f xs) e)
 
-pub elem_some : (f : ℕ → Bool) (xs : List ℕ) (k : ℕ) → elem k xs ≡ true → f k ≡ true → some f xs ≡ true
-unfolding some elem
+pub elem_some : (f : ℕ → Bool) (xs : List ℕ) (k : ℕ) → elem k xs ≡ true → f k ≡ true → list_any f xs ≡ true
 elem_some f [] k e i = absurd (false≢true e)
 elem_some f (x ∷ xs) k e i =
-    let later : elem k xs ≡ true → some f xs ≡ true = λ j. elem_some f xs k j i in
+    let later : elem k xs ≡ true → list_any f xs ≡ true = λ j. elem_some f xs k j i in
     ⊎_elim
-    (λ (j : eqb k x ≡ true). or_left (f x) (some f xs) (rw (eqb-true k x j) at i))
-    (λ (j : elem k xs ≡ true). or_right (f x) (some f xs) (later j))
+    (λ (j : eqb k x ≡ true). or_left (f x) (list_any f xs) (rw (eqb-true k x j) at i))
+    (λ (j : elem k xs ≡ true). or_right (f x) (list_any f xs) (later j))
     (or_cases (eqb k x) (elem k xs) e)
 
 -- the lowest is no higher than any, and as high as what is no higher than any
 pub lowest_elem : (f : ℕ → ℕ) (n : ℕ) (xs : List ℕ) (k : ℕ) → elem k xs ≡ true → lowest_over f n xs ≤ f k
-unfolding lowest_over elem
+unfolding lowest_over
 lowest_elem f n [] k e = absurd (false≢true e)
 lowest_elem f n (x ∷ xs) k e =
     let later : elem k xs ≡ true → lowest_over f n xs ≤ f k = lowest_elem f n xs k in
     ⊎_elim (λ (i : eqb k x ≡ true). omega (arith, ap f (eqb-true k x i))) (λ (i : elem k xs ≡ true). omega (arith, later i)) (or_cases (eqb k x) (elem k xs) e)
 
 pub lowest_from : (f : ℕ → ℕ) (n : ℕ) (xs : List ℕ) (c : ℕ) → c ≤ n → ((k : ℕ) → elem k xs ≡ true → c ≤ f k) → c ≤ lowest_over f n xs
-unfolding lowest_over elem
+unfolding lowest_over
 lowest_from f n [] c h g = h
 lowest_from f n (x ∷ xs) c h g =
     let here : c ≤ f x = g x (or_left (eqb x x) (elem x xs) (eq-eqb x x refl)) in
@@ -81,7 +65,7 @@ wins_trans : (f : ℕ → ℕ) (a b c : ℕ) → Wins f a b → Wins f b c → W
 wins_trans f a b c p q = (omega arith, λ e. omega arith)
 
 pub best_wins : (f : ℕ → ℕ) (d : ℕ) (xs : List ℕ) (j : ℕ) → elem j xs ≡ true → Wins f (best_of f d xs) j
-unfolding best_of elem
+unfolding best_of
 best_wins f d [] j h = absurd (false≢true h)
 best_wins f d (x ∷ xs) j h = ⊎_elim (λ e. here e) (λ e. there (best_wins f d xs j e)) (or_cases (eqb j x) (elem j xs) h)
   where
@@ -95,7 +79,7 @@ best_wins f d (x ∷ xs) j h = ⊎_elim (λ e. here e) (λ e. there (best_wins f
     there w = wins_trans f new (best_of f d xs) j (better_second f x (best_of f d xs)) w
 
 pub best_in : (f : ℕ → ℕ) (d : ℕ) (xs : List ℕ) → (best_of f d xs ≡ d) ⊎ (elem (best_of f d xs) xs ≡ true)
-unfolding best_of elem
+unfolding best_of
 best_in f d [] = inl refl
 best_in f d (x ∷ xs) = step (better f x (best_of f d xs)) (best_in f d xs)
   where

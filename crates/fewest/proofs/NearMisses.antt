@@ -6,7 +6,7 @@ use Rattle.prefix.specs.Bits.{Bits, begins, same, before}
 use Rattle.table.specs.Examples.{line}
 use Rattle.table.specs.Tables.{Entry, Entries, find, SendSame, has, distinct, every, sound, holds, without, insert}
 use Rattle.fewest.specs.Trees.{tree_at, tree_of, first, hops, all_to}
-use Rattle.fewest.specs.Needs.{lowest_over, need, fewest, some}
+use Rattle.fewest.specs.Needs.{lowest_over, need, fewest}
 use Rattle.fewest.specs.Prescribed.{beneath, best_of, prescribed}
 use Rattle.fewest.specs.NearMisses.{lower, joinable, join, join_all, quartered, halved, JoiningFallsShort, eager, partly, EagerIsAnother}
 
@@ -110,7 +110,7 @@ falls_short = (
 
 -- the usual choice, by computing
 eager_sends : SendSame 2 partly (eager (tree_of 2 partly) 0)
-unfolding find begins tree_at first hops all_to lowest_over need some beneath best_of eager
+unfolding find begins tree_at first hops all_to lowest_over need beneath best_of eager
 eager_sends [] n = absurd (omega arith)
 eager_sends (a ∷ []) n = absurd (omega arith)
 eager_sends (false ∷ false ∷ []) n = refl
@@ -120,5 +120,5 @@ eager_sends (true ∷ true ∷ []) n = refl
 eager_sends (a ∷ b ∷ c ∷ d) n = absurd (omega arith)
 
 pub eager_is_another : EagerIsAnother
-unfolding find begins has same distinct every tree_at first hops all_to lowest_over need some beneath best_of prescribed eager
+unfolding find begins has same distinct every tree_at first hops all_to lowest_over need beneath best_of prescribed eager
 eager_is_another = (refl, refl, refl, eager_sends, refl)

@@ -117,7 +117,7 @@ keeps_sound w t s =
 
 -- each line has its own next hop
 own_hops : (f : ℕ → Bool) (t : Entries) → ((k : ℕ) → has_hop k t ≡ true → f k ≡ true) → every (λ e. f e.hop) t ≡ true
-unfolding every has_hop
+unfolding every
 own_hops f [] g = refl
 own_hops f (e ∷ es) g =
     and_from _ _ (g e.hop (or_left (eqb e.hop e.hop) (has_hop e.hop es) (eq-eqb e.hop e.hop refl)))

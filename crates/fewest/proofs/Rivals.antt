@@ -1,14 +1,15 @@
 -- The tree of beginnings, and that no table has fewer lines than its tree needs. Assumes nothing.
-use Rattle.std.proofs.Common.{◌≡◌, ℕ, zero, suc, ◌+◌, ◌≤◌, Bool, true, false, cond, eqb, [], ◌∷◌, ◌++◌, length, sym, refl, ap, ◌∙◌, ap₂, ⊎_elim, append_assoc, append-nil, arith}
+use Rattle.std.proofs.Common.{◌≡◌, ℕ, zero, suc, ◌+◌, ◌≤◌, Bool, true, false, cond, eqb, [], ◌∷◌, ◌++◌, length, replicate, sym, refl, ap, ◌∙◌, ap₂, ⊎_elim, append_assoc, append-nil, arith, length-replicate}
 use Rattle.std.proofs.lemmas.Bool.{or_cases, cases_Bool, eq-eqb, eqb-true, and_from}
 use Rattle.std.proofs.lemmas.Bool.Decides.{nat_tests}
+use Rattle.std.proofs.lemmas.List.Folds.{list_any-append}
 use Rattle.prefix.specs.Bits.{Bits, Address}
 use Rattle.table.specs.Tables.{Entries, find, sends, SendSame}
 use Rattle.fewest.specs.Trees.{Tree, Leaf, Fork, Fits, tree_at, tree_of, goes, hops, elem, all_to}
 use Rattle.fewest.specs.Needs.{need}
 use Rattle.fewest.specs.Prescribed.{prescribed}
 use Rattle.fewest.specs.Laws.{TreeSends, TreeHops, TreeUniform, NoneFewer, SendingDecides}
-use Rattle.fewest.proofs.Lowest.{elem_append, elem_one}
+use Rattle.fewest.proofs.Lowest.{elem_one}
 use Rattle.fewest.proofs.Forks.{fork_low, fork_high, fork_out, all_uniform, all_goes, need_stay, need_line, need_outside}
 use Rattle.fewest.proofs.Split.{hop_or, sends_or, under, roots, hop_split, length_split, no_roots}
 
@@ -64,7 +65,7 @@ build_hop (suc w) f k e = step (build_hop w (λ a. f (false ∷ a)) k) (build_ho
     step p q = ⊎_elim
         (λ i. let a = p i in (false ∷ a.0, ap suc a.1, a.2))
         (λ i. let a = q i in (true ∷ a.0, ap suc a.1, a.2))
-        (or_cases _ _ (sym (elem_append k (hops (build w (λ a. f (false ∷ a)))) (hops (build w (λ a. f (true ∷ a))))) ∙ e))
+        (or_cases _ _ (sym (list_any-append _ (hops (build w (λ a. f (false ∷ a)))) (hops (build w (λ a. f (true ∷ a))))) ∙ e))
 
 build_all : (w : ℕ) (f : Bits → ℕ) (x : ℕ) → ((a : Bits) → Address w a → f a ≡ x) → all_to x (build w f) ≡ true
 unfolding build all_to
@@ -84,20 +85,11 @@ tree_hops v f b k = (
   λ a n e. ap (λ (t : Tree). elem k (hops t)) (tree_build v f b) ∙ ap (λ (j : ℕ). elem j (hops (build v (λ c. f (b ++ c))))) (sym e) ∙ build_elem v (λ c. f (b ++ c)) a n,
 )
 
-zeros : ℕ → Bits
-zeros zero = []
-zeros (suc n) = false ∷ zeros n
-
-zeros_long : (n : ℕ) → Address n (zeros n)
-unfolding zeros
-zeros_long zero = refl
-zeros_long (suc n) = ap suc (zeros_long n)
-
 pub tree_uniform : TreeUniform
 tree_uniform v f b = (
   λ e a c n m. sym (tree_sends v f b a n) ∙ all_goes _ (tree_at v f b) a e ∙ sym (all_goes _ (tree_at v f b) c e) ∙ tree_sends v f b c m,
-  λ e. all_uniform (f (b ++ zeros v)) (tree_at v f b)
-      (ap (all_to (f (b ++ zeros v))) (tree_build v f b) ∙ build_all v (λ c. f (b ++ c)) (f (b ++ zeros v)) (λ a n. e a (zeros v) n (zeros_long v))),
+  λ e. all_uniform (f (b ++ replicate v false)) (tree_at v f b)
+      (ap (all_to (f (b ++ replicate v false))) (tree_build v f b) ∙ build_all v (λ c. f (b ++ c)) (f (b ++ replicate v false)) (λ a n. e a (replicate v false) n (length-replicate v false))),
 )
 
 -- at a fork: c lines for all addresses, of which the one that counts says k, and n and m below

@@ -1,6 +1,6 @@
 -- Edges: ways of some bits down to a tree, on whose other sides all addresses go to one next hop. What they do to need and which lines they
 -- bring is known without going along them bit by bit. Assumes nothing.
-use Rattle.std.specs.Prelude.{ℕ, zero, suc, Bool, true, false, cond, not, ◌&&◌, ◌||◌, [], ◌∷◌, ◌++◌, ◌==◌}
+use Rattle.std.specs.Prelude.{ℕ, zero, suc, Bool, true, false, if◌then◌else◌, not, ◌&&◌, ◌||◌, [], ◌∷◌, ◌++◌, ◌==◌}
 use Rattle.prefix.specs.Bits.{Bits}
 use Rattle.table.specs.Examples.{line}
 use Rattle.table.specs.Tables.{Entries}
@@ -27,7 +27,7 @@ least_above (suc n) x t = need t x
 -- with more bits x alone
 abbrev pub reach_above : ℕ → ℕ → (ℕ → Bool) → ℕ → Bool
 reach_above zero x s k = s k
-reach_above (suc zero) x s k = cond (s x) (k == x) (s k || k == x)
+reach_above (suc zero) x s k = (if s x then k == x else s k || k == x)
 reach_above (suc (suc n)) x s k = k == x
 
 -- THE LINES ALONG an edge, for one who comes to its upper end with h
@@ -43,7 +43,7 @@ aside (suc (suc (suc n))) x h = false
 -- what is written along n bits, where s says which next hops reach the lowest need of the tree: nothing, if there are no bits or one comes with x;
 -- else a line with x on each other side, or a line with x at the upper end
 abbrev pub along : ℕ → ℕ → (ℕ → Bool) → ℕ → Along
-along n x s h = cond (n == 0 || h == x) Nothing (cond (aside n (s x) (s h)) Sides Top)
+along n x s h = (if n == 0 || h == x then Nothing else (if aside n (s x) (s h) then Sides else Top))
 
 -- what one goes on with at the tree
 abbrev pub onward : Along → ℕ → ℕ → ℕ

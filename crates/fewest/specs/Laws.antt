@@ -1,11 +1,10 @@
 -- What holds of need and of the prescribed table, for any table and any width; each statement is a theorem. Assumes nothing.
-use Rattle.std.specs.Prelude.{◌≡◌, ℕ, suc, ◌+◌, ◌≤◌, Bool, true, false, cond, ◌&&◌, ◌||◌, [], ◌∷◌, ◌++◌, length, ◌==◌}
+use Rattle.std.specs.Prelude.{◌≡◌, ℕ, suc, ◌+◌, ◌≤◌, Bool, true, false, if◌then◌else◌, ◌&&◌, ◌||◌, [], ◌∷◌, ◌++◌, length, ◌==◌, Option, Some, None}
+use Rattle.std.specs.List.{list_any}
 use Rattle.prefix.specs.Bits.{Bits, Address, begins}
 use Rattle.table.specs.Examples.{line}
 use Rattle.table.specs.Tables.{Entries, sends, SendSame, every, sound, rising}
 use Rattle.fewest.specs.declared.along.Along.{Along}
-use Rattle.fewest.specs.declared.choice.Choice.{Choice}
-use Rattle.fewest.specs.declared.choice.Choice.TheVariants.{Stay, Line}
 use Rattle.fewest.specs.Trees.{Tree, Fork, Fits, tree_at, goes, hops, elem, all_to, uniform}
 use Rattle.fewest.specs.Needs.{need, fewest, least, reaches, both, meet}
 use Rattle.fewest.specs.Prescribed.{beneath, forked, below, lowest_below, best, prescribed, short}
@@ -44,9 +43,8 @@ abbrev pub InOrder : Type 0
 InOrder = (w : ℕ) (t : Entries) → rising (short w t) ≡ true
 
 -- whether some line has this next hop
-unfoldable pub has_hop : ℕ → Entries → Bool
-has_hop k [] = false
-has_hop k (e ∷ es) = k == e.hop || has_hop k es
+abbrev pub has_hop : ℕ → Entries → Bool
+has_hop k t = list_any (λ e. k == e.hop) t
 
 -- has no next hops but 0 and those of the table,
 abbrev pub HopsAmong : Type 0
@@ -97,7 +95,7 @@ LeastIs = (t : Tree) →
 
 -- it and the next hops that reach it determine need: for others it is one more
 abbrev pub Determined : Type 0
-Determined = (t : Tree) (h : ℕ) → need t h ≡ cond (reaches t h) (least t) (suc (least t))
+Determined = (t : Tree) (h : ℕ) → need t h ≡ (if reaches t h then least t else suc (least t))
 
 -- where all addresses go to x: none is needed, and x alone reaches that
 abbrev pub UniformKept : Type 0
@@ -117,20 +115,20 @@ Joined = (l r : Tree) →
 
 -- the choice at a fork to which one comes with h, where s and u say which next hops reach the lowest need of its halves: no line, if none
 -- reaches both or h reaches one; or a line with the lowest that reaches both, if h reaches neither
-abbrev pub Chooses : (ℕ → Bool) → (ℕ → Bool) → ℕ → Choice → Type 0
-Chooses s u h Stay = (k : ℕ) → (s k && u k) ≡ true → (s h || u h) ≡ true
-Chooses s u h (Line k) = ((s k && u k) ≡ true) × ((j : ℕ) → (s j && u j) ≡ true → k ≤ j) × ((s h || u h) ≡ false)
+abbrev pub Chooses : (ℕ → Bool) → (ℕ → Bool) → ℕ → Option ℕ → Type 0
+Chooses s u h None = (k : ℕ) → (s k && u k) ≡ true → (s h || u h) ≡ true
+Chooses s u h (Some k) = ((s k && u k) ≡ true) × ((j : ℕ) → (s j && u j) ≡ true → k ≤ j) × ((s h || u h) ≡ false)
 
 -- the lines at and below a fork by such a choice, from those of its halves
-abbrev pub lines_by : Choice → ℕ → (ℕ → Entries) → (ℕ → Entries) → Entries
-lines_by Stay h s u = forked (s h) (u h)
-lines_by (Line k) h s u = line [] k ∷ forked (s k) (u k)
+abbrev pub lines_by : Option ℕ → ℕ → (ℕ → Entries) → (ℕ → Entries) → Entries
+lines_by None h s u = forked (s h) (u h)
+lines_by (Some k) h s u = line [] k ∷ forked (s k) (u k)
 
 -- there is such a choice at every fork, and by it the lines are the prescribed ones
 abbrev pub Chosen : Type 0
 Chosen = (l r : Tree) (h : ℕ) →
-    ((c : Choice) × Chooses (reaches l) (reaches r) h c) ×
-    ((c : Choice) → Chooses (reaches l) (reaches r) h c → prescribed (Fork l r) h ≡ lines_by c h (prescribed l) (prescribed r))
+    ((c : Option ℕ) × Chooses (reaches l) (reaches r) h c) ×
+    ((c : Option ℕ) → Chooses (reaches l) (reaches r) h c → prescribed (Fork l r) h ≡ lines_by c h (prescribed l) (prescribed r))
 
 -- EDGES
 

@@ -1,5 +1,5 @@
 -- What comes near and is not meant: joining neighbours, and another choice. Assumes nothing.
-use Rattle.std.specs.Prelude.{◌≡◌, ℕ, ◌<◌, Bool, true, false, cond, not, ◌&&◌, List, [], ◌∷◌, ◌++◌, length}
+use Rattle.std.specs.Prelude.{◌≡◌, ℕ, ◌<◌, Bool, true, false, if◌then◌else◌, not, ◌&&◌, List, [], ◌∷◌, ◌++◌, length}
 use Rattle.prefix.specs.Bits.{Bits}
 use Rattle.table.specs.Examples.{line}
 use Rattle.table.specs.Tables.{Entry, Entries, SendSame, sound, holds, put, without}
@@ -23,7 +23,7 @@ joinable e t = holds (line (lower e.prefix) e.hop) t && holds (line (upper e.pre
 
 -- it comes in place of them, where it can
 abbrev pub join : Entry → Entries → Entries
-join e t = cond (joinable e t) (put e (without (lower e.prefix) (without (upper e.prefix) t))) t
+join e t = (if joinable e t then put e (without (lower e.prefix) (without (upper e.prefix) t)) else t)
 
 -- one after the other
 unfoldable pub join_all : List Entry → Entries → Entries
@@ -51,9 +51,9 @@ JoiningFallsShort =
 unfoldable pub eager : Tree → ℕ → Entries
 eager (Leaf x) h = single x h
 eager (Fork l r) h =
-    cond (meet l r && not (both l r h))
-    (line [] (best l r) ∷ forked (eager l (best l r)) (eager r (best l r)))
-    (forked (eager l h) (eager r h))
+    (if meet l r && not (both l r h)
+    then line [] (best l r) ∷ forked (eager l (best l r)) (eager r (best l r))
+    else forked (eager l h) (eager r h))
 
 -- 00 to 1, 01 dropped, 1 to 1
 abbrev pub partly : Entries

@@ -1,5 +1,5 @@
 -- Which of the shortest tables: the prescribed one. Assumes nothing.
-use Rattle.std.specs.Prelude.{ℕ, ◌+◌, Bool, true, false, cond, ◌&&◌, ◌||◌, List, [], ◌∷◌, ◌++◌, ◌==◌, nat_le, nat_lt}
+use Rattle.std.specs.Prelude.{ℕ, ◌+◌, Bool, true, false, if◌then◌else◌, ◌&&◌, ◌||◌, List, [], ◌∷◌, ◌++◌, ◌==◌, nat_le, nat_lt}
 use Rattle.prefix.specs.Bits.{Bits}
 use Rattle.table.specs.Examples.{line}
 use Rattle.table.specs.Tables.{Entries}
@@ -17,7 +17,7 @@ forked s t = beneath (false ∷ []) s ++ beneath (true ∷ []) t
 
 -- a line for all addresses with x, unless they go to x anyway
 abbrev pub single : ℕ → ℕ → Entries
-single x h = cond (x == h) [] (line [] x ∷ [])
+single x h = (if x == h then [] else line [] x ∷ [])
 
 -- what both halves need with k
 abbrev pub below : Tree → Tree → ℕ → ℕ
@@ -34,7 +34,7 @@ better f x k = nat_lt (f x) (f k) || (f x == f k && nat_lt x k)
 -- the best of k and of a list
 unfoldable pub best_of : (ℕ → ℕ) → ℕ → List ℕ → ℕ
 best_of f k [] = k
-best_of f k (x ∷ xs) = cond (better f x (best_of f k xs)) x (best_of f k xs)
+best_of f k (x ∷ xs) = (if better f x (best_of f k xs) then x else best_of f k xs)
 
 -- the lowest next hop, of those to which an address goes, that gives the lowest number (`BestIs` in Laws)
 abbrev pub best : Tree → Tree → ℕ
@@ -46,11 +46,11 @@ best l r = best_of (below l r) (first l) (hops (Fork l r))
 unfoldable pub prescribed : Tree → ℕ → Entries
 prescribed (Leaf x) h = single x h
 prescribed (Fork l r) h =
-    cond (uniform (Fork l r))
-    (single (first (Fork l r)) h)
-    (cond (nat_le (below l r h) (1 + lowest_below l r))
-    (forked (prescribed l h) (prescribed r h))
-    (line [] (best l r) ∷ forked (prescribed l (best l r)) (prescribed r (best l r))))
+    (if uniform (Fork l r)
+    then single (first (Fork l r)) h
+    else (if nat_le (below l r h) (1 + lowest_below l r)
+    then forked (prescribed l h) (prescribed r h)
+    else line [] (best l r) ∷ forked (prescribed l (best l r)) (prescribed r (best l r))))
 
 -- the prescribed table for what a table sends where
 abbrev pub short : ℕ → Entries → Entries

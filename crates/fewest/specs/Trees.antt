@@ -1,5 +1,6 @@
 -- Where addresses go, as a tree of all their beginnings, for any width. Assumes nothing.
-use Rattle.std.specs.Prelude.{ℕ, zero, suc, Bool, true, false, ◌&&◌, ◌||◌, List, [], ◌∷◌, ◌++◌, ◌==◌}
+use Rattle.std.specs.Prelude.{ℕ, zero, suc, Bool, true, false, ◌&&◌, List, [], ◌∷◌, ◌++◌, ◌==◌}
+use Rattle.std.specs.List.{list_any}
 use Rattle.prefix.specs.Bits.{Bits}
 use Rattle.table.specs.Tables.{Entries, sends}
 
@@ -35,9 +36,8 @@ hops (Leaf x) = x ∷ []
 hops (Fork l r) = hops l ++ hops r
 
 -- whether a next hop is in a list
-unfoldable pub elem : ℕ → List ℕ → Bool
-elem k [] = false
-elem k (x ∷ xs) = k == x || elem k xs
+abbrev pub elem : ℕ → List ℕ → Bool
+elem k xs = list_any (λ x. k == x) xs
 
 -- whether all addresses go to x
 unfoldable pub all_to : ℕ → Tree → Bool

@@ -3,11 +3,9 @@
 #![tactic(auto)]
 
 mod along;
-mod choice;
 mod laws;
 
 pub use along::Along;
-pub use choice::Choice;
 pub use laws::{
     edges_are_short, fewest_by_example, near_misses_differ, need_is_kept, none_has_fewer,
     prescribed_is_right, sending_decides, trees_are_beginnings,

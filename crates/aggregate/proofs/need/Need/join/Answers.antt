@@ -1,18 +1,11 @@
-use Rattle.std.proofs.Common.{sym, ◌∙◌, arith}
-use Rattle.aggregate.specs.Model.{JoinedTo}
-use Rattle.aggregate.proofs.Keeping.{joined_apart, joined_meeting, joined_keeps}
+use Rattle.std.proofs.Common.{◌≡◌, ◌+◌, cond, arith}
+use Rattle.std.proofs.lemmas.Grind.{common_steps}
+use Rattle.aggregate.specs.Model.{capped}
+use Rattle.aggregate.proofs.Keeping.{joined_keeps, joined_by}
 use Rattle.aggregate.proofs.need.Need.join.Goals as goal
 
-pub returns-then-is_empty : goal.returns-then-is_empty
-returns-then-is_empty c =
-    let value : JoinedTo c.args.self.now c.args.other.now (record { count = c.saturating_add.result; hops = c.union-either.result }) =
-    joined_apart c.args.self.now c.args.other.now _ (λ k. sym (c.meet-shared.ensures k) ∙ c.if-is_empty.ensures k)
-    (omega (arith, c.saturating_add.ensures, c.saturating_add-count.ensures)) c.union-either.ensures in
-    record { value = value; keeps = joined_keeps c.args.self.now c.args.other.now _ value }
-
-pub returns-else-is_empty : goal.returns-else-is_empty
-returns-else-is_empty c =
-    let k = c.if-is_empty.ensures in
-    let value : JoinedTo c.args.self.now c.args.other.now (record { count = c.saturating_add-count.result; hops = c.meet-shared.result }) =
-    joined_meeting c.args.self.now c.args.other.now _ k.0 (sym (c.meet-shared.ensures k.0) ∙ k.1) c.saturating_add-count.ensures c.meet-shared.ensures in
-    record { value = value; keeps = joined_keeps c.args.self.now c.args.other.now _ value }
+pub returns-clause-keeps : goal.returns-clause-keeps
+returns-clause-keeps c =
+    let count : c.saturating_add.result ≡ capped (c.args.self.now.count + c.args.other.now.count + cond c.is_empty-apart.result 1 0) = grind (arith, common_steps) in
+    joined_keeps c.args.self.now c.args.other.now _
+    (joined_by c.args.self.now c.args.other.now _ c.bitand-shared.result c.bitor.result _ c.bitand-shared.ensures c.bitor.ensures c.is_empty-apart.ensures count c.or_if.ensures)
