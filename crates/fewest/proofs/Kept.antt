@@ -289,8 +289,7 @@ by_choice : (l r : Tree) (h : ℕ) (c : Option ℕ) → Chooses (reaches l) (rea
 by_choice l r h None s = stays l r h (none (meet l r) (reaches l h || reaches r h) (λ m. let k = meet_some l r m in s k.0 k.1))
   where
     none : (a b : Bool) → (a ≡ true → b ≡ true) → (a && not b) ≡ false
-    none true b f = rw (f refl)
-    none false b f = refl
+    none a b f = grind arith
 by_choice l r h (Some k) s = writes_line l r h k (and_from _ _ (meet_from l r k s.0) (not_from_false _ s.2)) s.0 s.1
 
 pub chosen : Chosen

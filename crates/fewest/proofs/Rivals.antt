@@ -1,7 +1,8 @@
 -- The tree of beginnings, and that no table has fewer lines than its tree needs. Assumes nothing.
-use Rattle.std.proofs.Common.{◌≡◌, ℕ, zero, suc, ◌+◌, ◌≤◌, Bool, true, false, cond, eqb, [], ◌∷◌, ◌++◌, length, sym, refl, ap, ◌∙◌, ap₂, ⊎_elim, append_assoc, append-nil, arith}
+use Rattle.std.proofs.Common.{◌≡◌, ℕ, zero, suc, ◌+◌, ◌≤◌, Bool, true, false, cond, eqb, [], ◌∷◌, ◌++◌, length, replicate, sym, refl, ap, ◌∙◌, ap₂, ⊎_elim, append_assoc, append-nil, arith}
 use Rattle.std.proofs.lemmas.Bool.{or_cases, cases_Bool, eq-eqb, eqb-true, and_from}
 use Rattle.std.proofs.lemmas.Bool.Decides.{nat_tests}
+use Rattle.std.proofs.lemmas.List.{length-replicate}
 use Rattle.std.proofs.lemmas.List.Folds.{list_any-append}
 use Rattle.prefix.specs.Bits.{Bits, Address}
 use Rattle.table.specs.Tables.{Entries, find, sends, SendSame}
@@ -85,20 +86,11 @@ tree_hops v f b k = (
   λ a n e. ap (λ (t : Tree). elem k (hops t)) (tree_build v f b) ∙ ap (λ (j : ℕ). elem j (hops (build v (λ c. f (b ++ c))))) (sym e) ∙ build_elem v (λ c. f (b ++ c)) a n,
 )
 
-zeros : ℕ → Bits
-zeros zero = []
-zeros (suc n) = false ∷ zeros n
-
-zeros_long : (n : ℕ) → Address n (zeros n)
-unfolding zeros
-zeros_long zero = refl
-zeros_long (suc n) = ap suc (zeros_long n)
-
 pub tree_uniform : TreeUniform
 tree_uniform v f b = (
   λ e a c n m. sym (tree_sends v f b a n) ∙ all_goes _ (tree_at v f b) a e ∙ sym (all_goes _ (tree_at v f b) c e) ∙ tree_sends v f b c m,
-  λ e. all_uniform (f (b ++ zeros v)) (tree_at v f b)
-      (ap (all_to (f (b ++ zeros v))) (tree_build v f b) ∙ build_all v (λ c. f (b ++ c)) (f (b ++ zeros v)) (λ a n. e a (zeros v) n (zeros_long v))),
+  λ e. all_uniform (f (b ++ replicate v false)) (tree_at v f b)
+      (ap (all_to (f (b ++ replicate v false))) (tree_build v f b) ∙ build_all v (λ c. f (b ++ c)) (f (b ++ replicate v false)) (λ a n. e a (replicate v false) n (length-replicate v false))),
 )
 
 -- at a fork: c lines for all addresses, of which the one that counts says k, and n and m below
