@@ -23,6 +23,7 @@ pub struct Transition<'a> {
 
 impl Transition<'_> {
     // How many writes it takes; refused where both tables together have more prefixes than a device holds lines.
+    #[tactic(auto, using(crate::proofs::Ending::plan_count))]
     pub fn plan_len(self) -> Result<usize, Refusal>
         ensures refused { option_map number_of (result_err result) ≡ refusal (entries self.entry.old.now) (entries self.entry.new.now) }
         ensures value { IfOk result (λ n. n ≡ length (plan (entries self.entry.old.now) (entries self.entry.new.now))) }

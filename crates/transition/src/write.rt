@@ -18,6 +18,7 @@ pub enum Write {
 
 impl Write {
     // Carries it out on a table. It is refused only where a put of a new prefix finds no memory; the table is then as it was.
+    #[tactic(auto, using(crate::proofs::Lines::has_at))]
     pub fn apply(self, table: &mut Table) -> Result<(), AllocError>
         ensures after { entries table.new ≡ (if is_ok result then written (writing_of self) (entries table.old) else entries table.old) }
         ensures full { OnErr result ((grows (writing_of self) (entries table.old) ≡ true) × (room table.old ≡ 0)) }
