@@ -44,7 +44,7 @@ module _ (old new : Entries) (places : ℕ) (fine : None ≡ refusal old new) wh
       elim (cases_Bool (crowded old new)) [
         | inl y ↦
             let e : ◌≡◌ {A = Option ℕ} None (Some (number_of TooManyLines)) = fine ∙ cond-true (crowded old new) (Some (number_of TooManyLines)) None y in
-            let z : ◌≡◌ {A = ℕ} 0 1 = cc in absurd (omega arith)
+            cc
         | inr y ↦ y
       ]
 

@@ -1,5 +1,6 @@
 -- What stands at a prefix, in tables that are filtered or sorted, and how many lines there are. Assumes nothing.
 use Rattle.std.proofs.Common.{◌≡◌, ℕ, zero, suc, ◌≤◌, Bool, true, false, cond, ◌||◌, eqb, List, [], ◌∷◌, ◌++◌, length, take, is_some, Some, None, filter, Option, sym, refl, ap, ◌∙◌, inl, inr, arith}
+use Rattle.std.proofs.Math.Bool.{or_comm, or_assoc, or-false}
 use Rattle.std.proofs.lemmas.Bool.{cond_both, cases_Bool, or_cases, or_parts, or_from, or_left, or_right, both_ways, cond-true, cond-false}
 use Rattle.prefix.specs.Bits.{Bits, same}
 use Rattle.prefix.proofs.Strings.{same_eq, same_refl}
@@ -7,15 +8,10 @@ use Rattle.prefix.proofs.Order.{differ_turn}
 use Rattle.table.specs.Tables.{Entry, Entries, has, distinct, pick, at, without, holds}
 use Rattle.table.specs.Laws.{SameLines}
 use Rattle.table.proofs.Picks.{has_without, at_without}
-use Rattle.table.proofs.Counts.{distinct_parts, distinct_from, distinct_insert, distinct_without}
+use Rattle.table.proofs.Counts.{count_without, distinct_parts, distinct_from, distinct_insert, distinct_without}
 use Rattle.table.proofs.Alike.{holds_has}
 use Rattle.transition.specs.Writes.{Writing, Put, Drop, written, written_all}
 use Rattle.transition.specs.Plans.{insert_by, sorted_by}
-
--- the first, or else the second
-abbrev pub alt : Option ℕ → Option ℕ → Option ℕ
-alt None o = o
-alt (Some x) o = Some x
 
 -- whether it is this next hop
 abbrev pub is_hop : ℕ → Option ℕ → Bool
@@ -35,7 +31,7 @@ has_at p (e ∷ es) =
 
 none_some : (o : Option ℕ) → is_some o ≡ false → o ≡ None
 none_some None h = refl
-none_some (Some x) h = absurd (both_ways true h refl)
+none_some (Some x) h = cc
 
 pub at_none : (p : Bits) (t : Entries) → has p t ≡ false → at t p ≡ None
 at_none p t h = none_some (at t p) (sym (has_at p t) ∙ h)
@@ -47,10 +43,6 @@ not_held e t h =
       | inr y ↦ y
     ]
 
-or_false : (b : Bool) → (b || false) ≡ b
-or_false true = refl
-or_false false = refl
-
 pub holds_at : (e : Entry) (t : Entries) → distinct t ≡ true → holds e t ≡ is_hop e.hop (at t e.prefix)
 unfolding holds pick
 holds_at e [] d = refl
@@ -59,7 +51,7 @@ holds_at e (f ∷ fs) d =
     elim (cases_Bool (same e.prefix f.prefix)) [
       | inl y ↦
           let n : holds e fs ≡ false = not_held e fs (rw (same_eq e.prefix f.prefix y) s.0) in
-          rw (y, n) (or_false (eqb e.hop f.hop))
+          rw (y, n) (or-false (eqb e.hop f.hop))
       | inr y ↦ rw y (holds_at e fs s.1)
     ]
 
@@ -153,10 +145,7 @@ module _ (f : Entry → Bool) where
 
 module _ (f : Bits → Bits → Bool) where
   or_swap : (x y z : Bool) → (x || (y || z)) ≡ (y || (x || z))
-  or_swap true true z = refl
-  or_swap true false z = refl
-  or_swap false true z = refl
-  or_swap false false z = refl
+  or_swap x y z = sym (or_assoc x y z) ∙ ap (λ b. b || z) (or_comm x y) ∙ or_assoc y x z
 
   pub has_insert : (p : Bits) (e : Entry) (t : Entries) → has p (insert_by f e t) ≡ has p (e ∷ t)
   unfolding has insert_by
@@ -225,38 +214,19 @@ module _ (f : Bits → Bits → Bool) where
 
 -- counts by prefixes
 
-without_le : (p : Bits) (t : Entries) → length (without p t) ≤ length t
-unfolding without
-without_le p [] = omega arith
-without_le p (e ∷ es) =
-    let ih = without_le p es in
-    cond_both (same p e.prefix) (without p es) (e ∷ without p es) (λ t. length t ≤ suc (length es)) (λ _. omega arith) (λ _. omega arith)
-
-without_less : (p : Bits) (t : Entries) → has p t ≡ true → suc (length (without p t)) ≤ length t
-unfolding without has
-without_less p [] h = absurd (both_ways false refl h)
-without_less p (e ∷ es) h =
-    let le = without_le p es in
-    elim (or_cases (same p e.prefix) (has p es) h) [
-      | inl y ↦ rw y (omega arith)
-      | inr y ↦
-          let ih = without_less p es y in
-          cond_both (same p e.prefix) (without p es) (e ∷ without p es) (λ t. suc (length t) ≤ suc (length es)) (λ _. omega arith) (λ _. omega arith)
-    ]
-
 has_others : (p q : Bits) (t : Entries) → same p q ≡ false → has p (without q t) ≡ has p t
 has_others p q t n =
     has_at p (without q t) ∙ ap is_some (at_without q t p ∙ cond-false (same p q) None (at t p) n) ∙ sym (has_at p t)
 
 -- a table whose prefixes are all in another has no more lines
-pub covered : (t u : Entries) → distinct t ≡ true → ((p : Bits) → has p t ≡ true → has p u ≡ true) → length t ≤ length u
+pub covered : (t u : Entries) → distinct t ≡ true → distinct u ≡ true → ((p : Bits) → has p t ≡ true → has p u ≡ true) → length t ≤ length u
 unfolding has
-covered [] u d h = omega arith
-covered (e ∷ es) u d h =
+covered [] u d g h = omega arith
+covered (e ∷ es) u d g h =
     let s = distinct_parts e es d in
     let there : has e.prefix u ≡ true = h e.prefix (or_left _ _ (same_refl e.prefix)) in
-    let rest = covered es (without e.prefix u) s.1 (λ p y. has_others p e.prefix u (off p s.0 y) ∙ h p (or_right _ _ y)) in
-    omega (arith, without_less e.prefix u there)
+    let rest = covered es (without e.prefix u) s.1 (distinct_without e.prefix u g) (λ p y. has_others p e.prefix u (off p s.0 y) ∙ h p (or_right _ _ y)) in
+    omega (arith, rest, rw there at (count_without e.prefix u g))
   where
     off : (p : Bits) → has e.prefix es ≡ false → has p es ≡ true → same p e.prefix ≡ false
     off p n y =
@@ -268,6 +238,6 @@ covered (e ∷ es) u d h =
 -- tables with the same prefixes have as many lines
 pub as_many : (t u : Entries) → distinct t ≡ true → distinct u ≡ true → ((p : Bits) → has p t ≡ has p u) → length t ≡ length u
 as_many t u d e h =
-    let a = covered t u d (λ p y. sym (h p) ∙ y) in
-    let b = covered u t e (λ p y. h p ∙ y) in
+    let a = covered t u d e (λ p y. sym (h p) ∙ y) in
+    let b = covered u t e d (λ p y. h p ∙ y) in
     omega arith
