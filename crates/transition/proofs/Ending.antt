@@ -2,7 +2,7 @@
 use Rattle.std.proofs.Common.{◌≡◌, ℕ, ◌+◌, ◌-◌, Bool, true, false, cond, not, ◌||◌, List, [], ◌∷◌, ◌++◌, map, length, take, is_some, Some, None, Option, sym, refl, ap, ◌∙◌, ap₂, inl, inr, arith}
 use Rattle.std.proofs.lemmas.List.{take_all, length-map, length-append}
 use Rattle.std.proofs.Math.Bool.{or_comm}
-use Rattle.std.proofs.lemmas.Bool.{cases_Bool, both_ways, or_left, or_right, or_from, ltb-true, ltb-false, lt-ltb}
+use Rattle.std.proofs.lemmas.Bool.{true_from_ne_false, both_ways, or_left, or_right, or_from, ltb-true, ltb-false, lt-ltb}
 use Rattle.prefix.specs.Bits.{Bits}
 use Rattle.prefix.proofs.Strings.{same_refl}
 use Rattle.table.specs.Tables.{Entry, Entries, has, distinct, rising, at}
@@ -77,7 +77,7 @@ distinct_append (x ∷ xs) u d e h =
     (distinct_append xs u s.1 e (λ p y. h p (or_right _ _ y)))
 
 fresh_other : (o n : Option ℕ) → is_some o ≡ true → is_some (fresh_of o n) ≡ false
-fresh_other None n h = absurd (both_ways false refl h)
+fresh_other None n h = cc
 fresh_other (Some y) None h = refl
 fresh_other (Some y) (Some x) h = refl
 
@@ -108,8 +108,8 @@ both_ways_alike old new od nd =
 
 -- on the way no prefix stands that neither table has
 from_either : (b : Bool) (x o n : Option ℕ) → is_some (cond b None (option_or x o)) ≡ true → (is_some x ≡ true → is_some n ≡ true) → (is_some o || is_some n) ≡ true
-from_either true x o n h k = absurd (both_ways false refl h)
-from_either false None None n h k = absurd (both_ways false refl h)
+from_either true x o n h k = cc
+from_either false None None n h k = cc
 from_either false None (Some y) n h k = refl
 from_either false (Some x) None n h k = k refl
 from_either false (Some x) (Some y) n h k = refl
@@ -124,10 +124,7 @@ putting_new old new p od nd h =
 
 taken_has : (p : Bits) (k : ℕ) (t : Entries) → has p (take k t) ≡ true → has p t ≡ true
 taken_has p k t h =
-    elim (cases_Bool (has p t)) [
-      | inl y ↦ y
-      | inr y ↦ absurd (both_ways (has p (take k t)) (has_take p k t y) h)
-    ]
+    true_from_ne_false (has p t) (λ y. both_ways (has p (take k t)) (has_take p k t y) h)
 
 pub never_more : NeverMore
 never_more old new od nd k =

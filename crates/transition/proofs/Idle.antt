@@ -1,7 +1,7 @@
 -- No write of a plan is idle, and no prefix is written twice. Assumes nothing.
 use Rattle.std.proofs.Common.{◌≡◌, ℕ, zero, suc, ◌-◌, ◌<◌, ◌≤◌, true, false, ◌⊎◌, [], ◌∷◌, ◌++◌, map, length, take, is_some, Some, None, Option, sym, refl, ap, ◌∙◌, inl, inr, arith}
 use Rattle.std.specs.List.{slice_get}
-use Rattle.std.proofs.lemmas.Bool.{cases_Bool, both_ways, or_left, or_right, or_from, cond-true, cond-false, not_from_false}
+use Rattle.std.proofs.lemmas.Bool.{cases_Bool, false_from_ne_true, both_ways, or_left, or_right, or_from, cond-true, cond-false, not_from_false}
 use Rattle.prefix.specs.Bits.{same}
 use Rattle.prefix.proofs.Strings.{same_eq, same_refl}
 use Rattle.table.specs.Tables.{Entry, Entries, has, holds, distinct, pick, at}
@@ -31,10 +31,7 @@ nth_taken (x ∷ xs) (suc j) (suc k) e l h = or_right _ _ (nth_taken xs j k e (o
 
 other_first : (x : Entry) (xs : Entries) (k : ℕ) (e : Entry) → has x.prefix xs ≡ false → slice_get xs k ≡ Some e → same e.prefix x.prefix ≡ false
 other_first x xs k e n h =
-    elim (cases_Bool (same e.prefix x.prefix)) [
-      | inl y ↦ absurd (both_ways (has x.prefix xs) n (rw (← same_eq e.prefix x.prefix y) (nth_has xs k e h)))
-      | inr y ↦ y
-    ]
+    false_from_ne_true (same e.prefix x.prefix) (λ y. both_ways (has x.prefix xs) n (rw (← same_eq e.prefix x.prefix y) (nth_has xs k e h)))
 
 -- its prefix is not among those before it
 none_before : (es : Entries) (k : ℕ) (e : Entry) → distinct es ≡ true → slice_get es k ≡ Some e → has e.prefix (take k es) ≡ false
@@ -54,10 +51,7 @@ nth_at (x ∷ xs) (suc k) e d h =
 
 apart_in : (es : Entries) (j k : ℕ) (e f : Entry) → distinct es ≡ true → j < k → slice_get es j ≡ Some e → slice_get es k ≡ Some f → same e.prefix f.prefix ≡ false
 apart_in es j k e f d l h g =
-    elim (cases_Bool (same e.prefix f.prefix)) [
-      | inl y ↦ absurd (both_ways (has f.prefix (take k es)) (none_before es k f d g) (rw (← same_eq e.prefix f.prefix y) (nth_taken es j k e l h)))
-      | inr y ↦ y
-    ]
+    false_from_ne_true (same e.prefix f.prefix) (λ y. both_ways (has f.prefix (take k es)) (none_before es k f d g) (rw (← same_eq e.prefix f.prefix y) (nth_taken es j k e l h)))
 
 -- a write at a place of a plan
 
@@ -148,12 +142,8 @@ module _ (old new : Entries) (od : distinct old ≡ true) (nd : distinct new ≡
   put_and_drop : (j k : ℕ) (u v : Writing) (r : PutAt (putting old new) j u) (s : DropAt (putting old new) (leaving old new) k v) → same r.line.prefix s.line.prefix ≡ false
   put_and_drop j k u v r s =
       let p = s.line.prefix in
-      elim (cases_Bool (same r.line.prefix p)) [
-        | inl y ↦
-            let h : has p new ≡ true = rw (← same_eq r.line.prefix p y) (putting_new old new r.line.prefix od nd (nth_has (putting old new) j r.line r.there)) in
-            absurd (both_ways (has p new) (has_at p new ∙ (left_by k v s).goes) h)
-        | inr y ↦ y
-      ]
+      false_from_ne_true (same r.line.prefix p)
+      (λ y. both_ways (has p new) (has_at p new ∙ (left_by k v s).goes) (rw (← same_eq r.line.prefix p y) (putting_new old new r.line.prefix od nd (nth_has (putting old new) j r.line r.there))))
 
 pub none_idle : NoneIdle
 none_idle old new od nd k u h =

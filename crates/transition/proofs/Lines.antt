@@ -1,7 +1,7 @@
 -- What stands at a prefix, in tables that are filtered or sorted, and how many lines there are. Assumes nothing.
 use Rattle.std.proofs.Common.{◌≡◌, ℕ, zero, suc, ◌≤◌, Bool, true, false, cond, ◌||◌, eqb, List, [], ◌∷◌, ◌++◌, length, take, is_some, Some, None, filter, Option, sym, refl, ap, ◌∙◌, inl, inr, arith}
 use Rattle.std.proofs.Math.Bool.{or_comm, or_assoc, or-false}
-use Rattle.std.proofs.lemmas.Bool.{cond_both, cases_Bool, or_cases, or_parts, or_from, or_left, or_right, both_ways, cond-true, cond-false}
+use Rattle.std.proofs.lemmas.Bool.{cond_both, cases_Bool, false_from_ne_true, or_cases, or_parts, or_from, or_left, or_right, both_ways, cond-true, cond-false}
 use Rattle.prefix.specs.Bits.{Bits, same}
 use Rattle.prefix.proofs.Strings.{same_eq, same_refl}
 use Rattle.prefix.proofs.Order.{differ_turn}
@@ -37,11 +37,7 @@ pub at_none : (p : Bits) (t : Entries) → has p t ≡ false → at t p ≡ None
 at_none p t h = none_some (at t p) (sym (has_at p t) ∙ h)
 
 pub not_held : (e : Entry) (t : Entries) → has e.prefix t ≡ false → holds e t ≡ false
-not_held e t h =
-    elim (cases_Bool (holds e t)) [
-      | inl y ↦ absurd (both_ways (has e.prefix t) h (holds_has e t y))
-      | inr y ↦ y
-    ]
+not_held e t h = false_from_ne_true (holds e t) (λ y. both_ways (has e.prefix t) h (holds_has e t y))
 
 pub holds_at : (e : Entry) (t : Entries) → distinct t ≡ true → holds e t ≡ is_hop e.hop (at t e.prefix)
 unfolding holds pick
@@ -229,11 +225,7 @@ covered (e ∷ es) u d g h =
     omega (arith, rest, rw there at (count_without e.prefix u g))
   where
     off : (p : Bits) → has e.prefix es ≡ false → has p es ≡ true → same p e.prefix ≡ false
-    off p n y =
-        elim (cases_Bool (same p e.prefix)) [
-          | inl z ↦ absurd (both_ways (has e.prefix es) n (rw (← same_eq p e.prefix z) y))
-          | inr z ↦ z
-        ]
+    off p n y = false_from_ne_true (same p e.prefix) (λ z. both_ways (has e.prefix es) n (rw (← same_eq p e.prefix z) y))
 
 -- tables with the same prefixes have as many lines
 pub as_many : (t u : Entries) → distinct t ≡ true → distinct u ≡ true → ((p : Bits) → has p t ≡ has p u) → length t ≡ length u

@@ -1,6 +1,6 @@
 -- The orders of writes, by length and then by bits, are strict and total. Assumes nothing.
 use Rattle.std.proofs.Common.{◌≡◌, ℕ, Bool, true, false, ◌&&◌, eqb, ltb, ◌⊎◌, length, sym, ◌∙◌, inl, inr}
-use Rattle.std.proofs.lemmas.Bool.{cases_Bool, cases_eq, or_cases, or_parts, or_from, or_left, or_right, and_parts, and_from, and_cases, and_left, and_right, both_ways, eqb-true, eq-eqb, ne_eqb, ltb-true}
+use Rattle.std.proofs.lemmas.Bool.{cases_eq, false_from_ne_true, or_cases, or_parts, or_from, or_left, or_right, and_parts, and_from, and_cases, and_left, and_right, both_ways, eqb-true, eq-eqb, ne_eqb, ltb-true}
 use Rattle.prefix.specs.Bits.{Bits, same, before}
 use Rattle.prefix.proofs.Order.{before_irrefl, before_trans, before_other}
 use Rattle.table.specs.Tables.{Entries, distinct}
@@ -29,11 +29,7 @@ module _ (first : ℕ → ℕ → Bool) (strict : Strict first) where
       or_from _ _ off (and_left _ _ (ne_eqb (length p) (length q) (λ e. both_ways (first (length p) (length p)) (strict.irrefl (length p)) (rw (← e) at h))))
     where
       off : first (length p) (length q) ≡ false
-      off =
-          elim (cases_Bool (first (length p) (length q))) [
-            | inl y ↦ absurd (both_ways (first (length p) (length p)) (strict.irrefl (length p)) (strict.trans (length p) (length q) (length p) y h))
-            | inr y ↦ y
-          ]
+      off = false_from_ne_true _ (λ y. both_ways (first (length p) (length p)) (strict.irrefl (length p)) (strict.trans (length p) (length q) (length p) y h))
 
   pub order_irrefl : (p : Bits) → by_length first p p ≡ false
   order_irrefl p = or_from _ _ (strict.irrefl (length p)) (and_right (eqb (length p) (length p)) (before p p) (before_irrefl p))

@@ -2,7 +2,7 @@
 use Rattle.std.proofs.Common.{◌≡◌, ℕ, false, cond, List, [], ◌∷◌, length, take, drop, Some, None, filter, Option, sym, refl, ap, ◌∙◌, inl, inr, arith}
 use Rattle.std.proofs.lemmas.List.Elements.{filter-append}
 use Rattle.std.proofs.lemmas.List.{take-append-drop, length-append, nil_from_length}
-use Rattle.std.proofs.lemmas.Bool.{cases_Bool, cond-false, both_ways}
+use Rattle.std.proofs.lemmas.Bool.{cases_Bool, false_from_ne_true, cond-false, both_ways}
 use Rattle.prefix.specs.Bits.{Bits, begins, same}
 use Rattle.prefix.proofs.Strings.{same_eq}
 use Rattle.prefix.proofs.Order.{begins_first}
@@ -24,11 +24,7 @@ other_written (Put e) t p h = at_put e t p ∙ cond-false (same p e.prefix) (Som
 other_written (Drop q) t p h = at_without q t p ∙ cond-false (same p q) None (at t p) h
 
 not_begun : (a : Bits) (n : ℕ) (q : Bits) → begins q a ≡ false → same (take n a) q ≡ false
-not_begun a n q h =
-    elim (cases_Bool (same (take n a) q)) [
-      | inl y ↦ absurd (both_ways (begins q a) h (rw (← same_eq (take n a) q y) (begins_first n a)))
-      | inr y ↦ y
-    ]
+not_begun a n q h = false_from_ne_true (same (take n a) q) (λ y. both_ways (begins q a) h (rw (← same_eq (take n a) q y) (begins_first n a)))
 
 module _ (a : Bits) where
   abbrev own : List Writing → List Writing

@@ -3,7 +3,7 @@ use Rattle.std.proofs.Common.{◌≡◌, ℕ, zero, suc, ◌<◌, ◌≤◌, max
 use Rattle.std.specs.List.{AllByRecursion}
 use Rattle.std.proofs.ByRecursion.{All-weaker, All-drop}
 use Rattle.std.proofs.lemmas.List.{length-take-le, take-append-drop}
-use Rattle.std.proofs.lemmas.Bool.{cond_both, cases_Bool, cases_lt, or_from, or_parts}
+use Rattle.std.proofs.lemmas.Bool.{cond_both, cases_Bool, false_from_ne_true, cases_lt, or_from, or_parts}
 use Rattle.prefix.specs.Bits.{Bits, begins, same}
 use Rattle.prefix.proofs.Strings.{same_eq}
 use Rattle.prefix.proofs.Order.{begins_is, begins_first}
@@ -59,18 +59,14 @@ Farther z x = (length z < length x) ⊎ ((length z ≡ length x) × (z ≡ x →
 
 farther_apart : (a z x : Bits) (n : ℕ) → n ≤ length a → begins z a ≡ true → n ≤ length z → Farther z x → same (take n a) x ≡ false
 farther_apart a z x n l b h f =
-    elim (cases_Bool (same (take n a) x)) [
-      | inl y ↦
-          let e = same_eq (take n a) x y in
-          let m : length x ≡ n = sym (ap length e) ∙ length-take-le n a l in
-          absurd (elim f [
-            | inl k ↦ omega arith
-            | inr k ↦
-                let q : length z ≡ n = k.0 ∙ m in
-                k.1 ((begins_is z a b).1 ∙ ap (λ j. take j a) q ∙ e)
-          ])
-      | inr y ↦ y
-    ]
+    false_from_ne_true (same (take n a) x)
+    (λ y.
+    let e = same_eq (take n a) x y in
+    let m : length x ≡ n = sym (ap length e) ∙ length-take-le n a l in
+    elim f [
+      | inl k ↦ omega arith
+      | inr k ↦ k.1 ((begins_is z a b).1 ∙ ap (λ j. take j a) (k.0 ∙ m) ∙ e)
+    ])
 
 free_of : (a z : Bits) (n : ℕ) (xs : Entries) → n ≤ length a → begins z a ≡ true → n ≤ length z → AllByRecursion (λ x. Farther z x.prefix) xs → has (take n a) xs ≡ false
 unfolding has

@@ -116,8 +116,8 @@ plan_prescribed old new od nd = record {
 
 same_writing_lem : (u v : Writing) → same_writing u v ≡ true → u ≡ v
 same_writing_lem (Put e) (Put f) h = ap Put (is_eq e f h)
-same_writing_lem (Put e) (Drop q) h = absurd (both_ways false refl h)
-same_writing_lem (Drop p) (Put f) h = absurd (both_ways false refl h)
+same_writing_lem (Put e) (Drop q) h = cc
+same_writing_lem (Drop p) (Put f) h = cc
 same_writing_lem (Drop p) (Drop q) h = ap Drop (same_eq p q h)
 
 writing_refl : (u : Writing) → same_writing u u ≡ true
@@ -131,8 +131,8 @@ earlier_irrefl (Drop p) = order_irrefl ltb shorter_strict p
 earlier_trans : (u v w : Writing) → earlier u v ≡ true → earlier v w ≡ true → earlier u w ≡ true
 earlier_trans (Put e) (Put f) (Put g) h k = order_trans is_longer longer_strict e.prefix f.prefix g.prefix h k
 earlier_trans (Put e) v (Drop r) h k = refl
-earlier_trans (Put e) (Drop q) (Put g) h k = absurd (both_ways false refl k)
-earlier_trans (Drop p) (Put f) w h k = absurd (both_ways false refl h)
+earlier_trans (Put e) (Drop q) (Put g) h k = cc
+earlier_trans (Drop p) (Put f) w h k = cc
 earlier_trans (Drop p) (Drop q) (Put g) h k = k
 earlier_trans (Drop p) (Drop q) (Drop r) h k = order_trans ltb shorter_strict p q r h k
 
