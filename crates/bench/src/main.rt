@@ -3,86 +3,67 @@
 #![tactic(auto)]
 
 use prefix::Prefix;
+use samples::{CheckSum, Numbers};
 use std::alloc::Global;
 use std::env;
 use std::time::Instant;
 use table::{DEVICE_LIMIT, Route, Table, WANTED_LIMIT};
 use transition::{Transition, Write};
 
-const LOOKUPS: u32 = 1_000_000;
+const LOOKUPS: usize = 1_000_000;
 
 // how often each plan is made
 const PLANS: u32 = 20;
 
-// The next of a fixed sequence of numbers that look random.
-fn next(seed: u64) -> u64 {
-    seed.wrapping_mul(6364136223846793005)
-        .wrapping_add(1442695040888963407)
-}
-
-// A route of 8 to 32 bits: half of them have 24, as in the tables of routers, and the others any length.
-fn route(seed: u64, turn: u64) -> Route {
-    let pick = (seed >> 20 & 63) as u8;
-    let len = if pick < 32 {
-        24
-    } else if pick < 57 {
-        pick - 24
-    } else {
-        16
+// A route of 8 to 32 bits, from a number: half of them have 24, as in the tables of routers, and the others any length.
+fn route_of(number: u64, turn: u64) -> Route {
+    let len = match (number >> 20 & 63) as u8 {
+        0..32 => 24,
+        pick @ 32..57 => pick - 24,
+        _ => 16,
     };
-    let prefix = Prefix::host((seed >> 32) as u32).cut(len);
-    Route {
-        prefix,
-        next_hop: ((seed >> 12).wrapping_add(turn) & 15) as u8,
-    }
+    samples::route((
+        (number >> 32) as u32,
+        len,
+        ((number >> 12).wrapping_add(turn) & 15) as u8,
+    ))
 }
 
 // A table of so many routes; another `turn` gives the same prefixes other next hops.
 fn fill(heap: Global, start: u64, lines: usize, turn: u64) -> anyhow::Result<Table> {
     let mut table = Table::new(heap);
-    let mut seed = start;
-    for _ in 0..1_000_000 {
+    for number in Numbers(start).take(1_000_000) {
         if table.len() >= lines {
             break;
         }
-        seed = next(seed);
-        table.put(route(seed, turn))?;
+        table.put(route_of(number, turn))?;
     }
     Ok(table)
 }
 
 // How many of the addresses found a route, and a check sum over what they found.
-fn look_up(table: &Table) -> (u32, u64) {
-    let mut seed = 2;
+fn look_up(table: &Table) -> (u32, CheckSum) {
     let mut found: u32 = 0;
-    let mut sum: u64 = 0;
-    for _ in 0..LOOKUPS {
-        seed = next(seed);
-        if let Some(hit) = table.lookup((seed >> 32) as u32) {
+    let mut sum = CheckSum::default();
+    for number in Numbers(2).take(LOOKUPS) {
+        if let Some(hit) = table.lookup((number >> 32) as u32) {
             found = found.saturating_add(1);
-            sum = sum
-                .wrapping_mul(31)
-                .wrapping_add(u64::from(hit.len) * 256 + u64::from(hit.next_hop));
+            sum.add(u64::from(hit.len) * 256 + u64::from(hit.next_hop));
         }
     }
     (found, sum)
 }
 
 // A check sum over writes: the kind, the length, the network and the next hop of each.
-fn sum_of(writes: &[Write]) -> u64 {
-    let mut sum: u64 = 0;
+fn sum_of(writes: &[Write]) -> CheckSum {
+    let mut sum = CheckSum::default();
     for write in writes {
         let (kind, prefix, next_hop) = match write {
             Write::Put(route) => (16u8, route.prefix, route.next_hop),
             Write::Drop(prefix) => (17u8, *prefix, 0),
         };
-        sum = sum
-            .wrapping_mul(31)
-            .wrapping_add(
-                u64::from(kind) * 65_536 + u64::from(prefix.len()) * 256 + u64::from(next_hop),
-            )
-            .wrapping_mul(31)
-            .wrapping_add(u64::from(prefix.network()));
+        sum.add(u64::from(kind) * 65_536 + u64::from(prefix.len()) * 256 + u64::from(next_hop));
+        sum.add(u64::from(prefix.network()));
     }
     sum
 }
@@ -105,10 +86,7 @@ fn go_over(
     let spent = start.elapsed(rt)?.as_micros() / u128::from(PLANS);
     match made {
         Ok(count) => {
-            let sum = match writes.get(..count) {
-                Some(plan) => sum_of(plan),
-                None => 0,
-            };
+            let sum = writes.get(..count).map_or(CheckSum::default(), sum_of);
             println!(rt; "{name}: {count} writes, check sum {sum}")?;
         }
         Err(refusal) => println!(rt; "{name}: refused {}", u8::from(refusal))?,
@@ -119,24 +97,13 @@ fn go_over(
     Ok(())
 }
 
-// Whether the figures are asked for.
-fn asked(rt: &HostRuntime) -> anyhow::Result<bool> {
-    let mut timed = false;
-    for argument in env::args(rt)?.skip(1) {
-        if argument.as_str() == "--time" {
-            timed = true;
-        }
-    }
-    Ok(timed)
-}
-
 fn run_lookups(rt: &HostRuntime, timed: bool) -> anyhow::Result<()> {
     let start = Instant::now(rt)?;
     let table = fill(rt.alloc(), 1, WANTED_LIMIT, 0)?;
     let filled = start.elapsed(rt)?.as_millis();
     let start = Instant::now(rt)?;
     let (found, sum) = look_up(&table);
-    let looked = start.elapsed(rt)?.as_nanos() / u128::from(LOOKUPS);
+    let looked = start.elapsed(rt)?.as_nanos() / LOOKUPS as u128;
     let lines = table.len();
     println!(rt; "{lines} lines, {LOOKUPS} look-ups, {found} found, check sum {sum}")?;
     if timed {
@@ -161,7 +128,9 @@ fn run_plans(rt: &HostRuntime, timed: bool) -> anyhow::Result<()> {
 }
 
 fn main(rt: HostRuntime) -> anyhow::Result<()> {
-    let timed = asked(&rt)?;
+    let timed = env::args(&rt)?
+        .skip(1)
+        .any(|argument| argument.as_str() == "--time");
     run_lookups(&rt, timed)?;
     run_plans(&rt, timed)
 }

@@ -3,103 +3,110 @@
 #![tactic(auto)]
 
 use aggregate::{Need, choose};
-use fewest::Choice;
-use std::alloc::Global;
+use samples::{CheckSum, Numbers};
+use std::alloc::{AllocError, Global};
 use std::env;
 use std::time::Instant;
-use table::WANTED_LIMIT;
+use table::{NextHop, WANTED_LIMIT};
 
 // how often the fewest lines are worked out
 const ROUNDS: u32 = 20;
 
-// The next of a fixed sequence of numbers that look random.
-fn next(seed: u64) -> u64 {
-    seed.wrapping_mul(6364136223846793005)
-        .wrapping_add(1442695040888963407)
+// A value for each part of the addresses, level by level: first for all of them, then for the two halves, and so on down to the lines.
+type Levels<T> = Vec<Vec<T>>;
+
+// Levels with one value everywhere, the last with one for each of so many lines.
+fn levels<T: Copy>(heap: Global, value: T, lines: usize) -> Result<Levels<T>, AllocError> {
+    let mut levels = vec![in heap]?;
+    let mut parts = 1;
+    for _ in 0..usize::BITS {
+        levels.push(vec![in heap; value; parts]?)?;
+        if parts >= lines {
+            break;
+        }
+        parts *= 2;
+    }
+    Ok(levels)
 }
 
-// The needs of a table of lines of 15 bits, side by side, over all addresses: at 1 that of all, at 2 i and 2 i + 1 those of the halves of i,
-// and in the second half of the vector those of the lines. The next hops are four.
-fn side_by_side(heap: Global) -> anyhow::Result<Vec<Need>> {
-    let mut needs = vec![in heap; Need::uniform(0); 2 * WANTED_LIMIT]?;
-    let mut seed = 5;
-    for i in WANTED_LIMIT..2 * WANTED_LIMIT {
-        seed = next(seed);
-        if let Some(place) = needs.get_mut(i) {
-            *place = Need::uniform((seed >> 40 & 3) as u8);
+// The needs of a table of lines of 15 bits, side by side, over all addresses; those above the lines are still to be worked out. The next hops are four.
+fn side_by_side(heap: Global) -> Result<Levels<Need>, AllocError> {
+    let mut needs = levels(heap, Need::uniform(0), WANTED_LIMIT)?;
+    if let Some(lines) = needs.last_mut() {
+        for (need, number) in lines.iter_mut().zip(Numbers(5)) {
+            *need = Need::uniform((number >> 40 & 3) as u8);
         }
     }
     Ok(needs)
 }
 
-// Works the needs out from those of the lines upwards.
-fn work_out(needs: &mut Vec<Need>) {
-    for i in (1..WANTED_LIMIT).rev() {
-        let Some(low) = needs.get(2 * i).copied() else {
-            return
-        };
-        let Some(high) = needs.get(2 * i + 1).copied() else {
-            return
-        };
-        if let Some(place) = needs.get_mut(i) {
-            *place = low.join(&high);
+// Works the needs out from those of the lines upwards: each is that of two halves together.
+fn work_out(needs: &mut [Vec<Need>]) {
+    let Some((level, below)) = needs.split_first_mut() else {
+        return;
+    };
+    work_out(below);
+    if let Some(halves) = below.first() {
+        for (need, pair) in level.iter_mut().zip(halves.chunks_exact(2)) {
+            if let [low, high] = pair {
+                *need = low.join(high);
+            }
         }
     }
 }
 
-// Chooses the lines downwards: how many are written, and a check sum over where they stand and over the next hops that are handed down.
-fn write_down(needs: &Vec<Need>, given: &mut Vec<u8>) -> (u32, u64) {
+// Chooses the lines downwards, level by level: how many are written, and a check sum over where they stand and over the next hops that are handed down.
+fn write_down(heap: Global, needs: &[Vec<Need>]) -> Result<(u32, CheckSum), AllocError> {
     let mut lines: u32 = 0;
-    let mut sum: u64 = 0;
-    for i in 1..2 * WANTED_LIMIT {
-        let Some(hop) = given.get(i).copied() else {
-            break
-        };
-        let Some(need) = needs.get(i) else { break };
-        let mut onward = hop;
-        if i >= WANTED_LIMIT {
-            lines = lines.saturating_add(need.lines(hop));
-            sum = sum
-                .wrapping_mul(31)
-                .wrapping_add(u64::from(need.lines(hop)));
-        } else if let (Some(low), Some(high)) = (needs.get(2 * i), needs.get(2 * i + 1)) {
-            if let Choice::Line(k) = choose(low, high, hop) {
-                lines = lines.saturating_add(1);
-                onward = k;
+    let mut sum = CheckSum::default();
+    // the next hops with which one comes to the parts of a level
+    let mut given = vec![in heap; 0; 1]?;
+    for halves in needs.iter().skip(1) {
+        let mut handed = Vec::with_capacity(heap, halves.len())?;
+        for (hop, pair) in given.iter().zip(halves.chunks_exact(2)) {
+            if let [low, high] = pair {
+                let line = match choose(low, high, *hop) {
+                    fewest::Choice::Line(k) => Some(k),
+                    fewest::Choice::Stay => None
+                };
+                lines = lines.saturating_add(u32::from(line.is_some()));
+                let onward = line.unwrap_or(*hop);
+                sum.add(u64::from(onward));
+                handed.push(onward)?;
+                handed.push(onward)?;
             }
         }
-        sum = sum.wrapping_mul(31).wrapping_add(u64::from(onward));
-        if let Some(place) = given.get_mut(2 * i) {
-            *place = onward;
-        }
-        if let Some(place) = given.get_mut(2 * i + 1) {
-            *place = onward;
+        given = handed;
+    }
+    if let Some(level) = needs.last() {
+        for (need, hop) in level.iter().zip(&given) {
+            let count = need.lines(*hop);
+            lines = lines.saturating_add(count);
+            sum.add(u64::from(count));
+            sum.add(u64::from(*hop));
         }
     }
-    (lines, sum)
+    Ok((lines, sum))
 }
 
 // The fewest lines for a table as large as a wanted one may be: how many, from the need of all addresses and from the lines that are chosen.
 fn run_fewest(rt: &HostRuntime, timed: bool) -> anyhow::Result<()> {
     let heap = rt.alloc();
     let mut needs = side_by_side(heap)?;
-    let mut given = vec![in heap; 0; 2 * WANTED_LIMIT]?;
     let start = Instant::now(rt)?;
     for _ in 0..ROUNDS {
         work_out(&mut needs);
     }
     let worked = start.elapsed(rt)?.as_micros() / u128::from(ROUNDS);
     let start = Instant::now(rt)?;
-    let mut written = (0, 0);
+    let mut written = (0, CheckSum::default());
     for _ in 0..ROUNDS {
-        written = write_down(&needs, &mut given);
+        written = write_down(heap, &needs)?;
     }
     let chosen = start.elapsed(rt)?.as_micros() / u128::from(ROUNDS);
     let (lines, sum) = written;
-    let needed = match needs.get(1) {
-        Some(need) => need.lines(0),
-        None => 0,
-    };
+    let all = needs.first().and_then(|level| level.first());
+    let needed = all.map_or(0, |need| need.lines(0));
     println!(rt;
         "{WANTED_LIMIT} lines of 15 bits: {needed} needed, {lines} written, check sum {sum}"
     )?;
@@ -109,18 +116,9 @@ fn run_fewest(rt: &HostRuntime, timed: bool) -> anyhow::Result<()> {
     Ok(())
 }
 
-// Whether the figures are asked for.
-fn asked(rt: &HostRuntime) -> anyhow::Result<bool> {
-    let mut timed = false;
-    for argument in env::args(rt)?.skip(1) {
-        if argument.as_str() == "--time" {
-            timed = true;
-        }
-    }
-    Ok(timed)
-}
-
 fn main(rt: HostRuntime) -> anyhow::Result<()> {
-    let timed = asked(&rt)?;
+    let timed = env::args(&rt)?
+        .skip(1)
+        .any(|argument| argument.as_str() == "--time");
     run_fewest(&rt, timed)
 }

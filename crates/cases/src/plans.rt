@@ -1,9 +1,9 @@
 // Plans on worked examples: write for write, moment for moment, and refusals that leave the slice as it was.
-use crate::tables::next;
 use prefix::Prefix;
+use samples::{Numbers, route, table_of};
 use std::alloc::{AllocError, Global};
 use std::test::Fail;
-use table::{DEVICE_LIMIT, Match, Route, Table};
+use table::{DEVICE_LIMIT, Table};
 use transition::{Refusal, Transition, Write};
 
 fn prefix(network: u32, len: u8) -> Prefix {
@@ -11,26 +11,11 @@ fn prefix(network: u32, len: u8) -> Prefix {
 }
 
 fn put(network: u32, len: u8, next_hop: u8) -> Write {
-    Write::Put(Route {
-        prefix: prefix(network, len),
-        next_hop,
-    })
+    Write::Put(route((network, len, next_hop)))
 }
 
 fn remove(network: u32, len: u8) -> Write {
     Write::Drop(prefix(network, len))
-}
-
-// A table of some lines: network, length, next hop.
-fn table(heap: Global, lines: &[(u32, u8, u8)]) -> Result<Table, AllocError> {
-    let mut table = Table::new(heap);
-    for (network, len, next_hop) in lines {
-        table.put(Route {
-            prefix: prefix(*network, *len),
-            next_hop: *next_hop,
-        })?;
-    }
-    Ok(table)
 }
 
 // Going over from one table to another.
@@ -45,8 +30,8 @@ fn blank() -> Write {
 
 #[test]
 fn halves_in_place_of_the_whole(rt: HostRuntime) -> Result<(), Fail> {
-    let old = table(rt.alloc(), &[(0, 0, 1)])?;
-    let new = table(rt.alloc(), &[(0, 1, 2), (0x8000_0000, 1, 3)])?;
+    let old = table_of(rt.alloc(), &[(0, 0, 1)])?;
+    let new = table_of(rt.alloc(), &[(0, 1, 2), (0x8000_0000, 1, 3)])?;
     let mut out = [blank(); 4];
     assert_eq!(rt; going(&old, &new).plan_len(), Ok(3));
     assert_eq!(rt; going(&old, &new).plan_into(&mut out), Ok(3));
@@ -60,7 +45,7 @@ fn halves_in_place_of_the_whole(rt: HostRuntime) -> Result<(), Fail> {
 
 #[test]
 fn longest_put_first_and_shortest_dropped_first(rt: HostRuntime) -> Result<(), Fail> {
-    let old = table(
+    let old = table_of(
         rt.alloc(),
         &[
             (0x0a01_0000, 16, 1),
@@ -69,7 +54,7 @@ fn longest_put_first_and_shortest_dropped_first(rt: HostRuntime) -> Result<(), F
             (0x0c00_0000, 8, 4),
         ],
     )?;
-    let new = table(
+    let new = table_of(
         rt.alloc(),
         &[
             (0, 0, 9),
@@ -93,8 +78,8 @@ fn longest_put_first_and_shortest_dropped_first(rt: HostRuntime) -> Result<(), F
 
 #[test]
 fn nothing_to_write_for_the_same_table(rt: HostRuntime) -> Result<(), Fail> {
-    let old = table(rt.alloc(), &[(0, 0, 1), (0x0a00_0000, 8, 0)])?;
-    let new = table(rt.alloc(), &[(0x0a00_0000, 8, 0), (0, 0, 1)])?;
+    let old = table_of(rt.alloc(), &[(0, 0, 1), (0x0a00_0000, 8, 0)])?;
+    let new = table_of(rt.alloc(), &[(0x0a00_0000, 8, 0), (0, 0, 1)])?;
     let mut out = [blank(); 1];
     assert_eq!(rt; going(&old, &new).plan_into(&mut out), Ok(0));
     assert_eq!(rt; out[0], blank());
@@ -104,8 +89,8 @@ fn nothing_to_write_for_the_same_table(rt: HostRuntime) -> Result<(), Fail> {
 
 #[test]
 fn a_slice_too_short_is_left_as_it_was(rt: HostRuntime) -> Result<(), Fail> {
-    let old = table(rt.alloc(), &[(0, 0, 1)])?;
-    let new = table(rt.alloc(), &[(0, 1, 2), (0x8000_0000, 1, 3)])?;
+    let old = table_of(rt.alloc(), &[(0, 0, 1)])?;
+    let new = table_of(rt.alloc(), &[(0, 1, 2), (0x8000_0000, 1, 3)])?;
     let mut out = [blank(); 2];
     assert_eq!(rt;
         going(&old, &new).plan_into(&mut out),
@@ -121,10 +106,7 @@ fn a_slice_too_short_is_left_as_it_was(rt: HostRuntime) -> Result<(), Fail> {
 fn hosts(heap: Global, first: u32, lines: u32) -> Result<Table, AllocError> {
     let mut table = Table::new(heap);
     for i in 0..lines {
-        table.put(Route {
-            prefix: Prefix::host(first.wrapping_add(i)),
-            next_hop: 1,
-        })?;
+        table.put(route((first.wrapping_add(i), 32, 1)))?;
     }
     Ok(table)
 }
@@ -170,13 +152,12 @@ fn a_table_beyond_the_device_is_refused(rt: HostRuntime) -> Result<(), Fail> {
 // Some lines of at most 8 bits: few enough prefixes that lines stand under one another, and in both tables.
 fn scattered(heap: Global, start: u64) -> Result<Table, AllocError> {
     let mut table = Table::new(heap);
-    let mut seed = start;
-    for _ in 0..60 {
-        seed = next(seed);
-        table.put(Route {
-            prefix: prefix((seed >> 32) as u32, ((seed >> 24) % 9) as u8),
-            next_hop: ((seed >> 16) % 4) as u8,
-        })?;
+    for n in Numbers(start).take(60) {
+        table.put(route((
+            (n >> 32) as u32,
+            ((n >> 24) % 9) as u8,
+            ((n >> 16) % 4) as u8,
+        )))?;
     }
     Ok(table)
 }
@@ -192,10 +173,7 @@ fn no_address_goes_astray_for_a_moment(rt: HostRuntime) -> Result<(), Fail> {
     let new = scattered(rt.alloc(), 6)?;
     let mut device = scattered(rt.alloc(), 5)?;
     let mut out = [blank(); 120];
-    let count = match going(&old, &new).plan_into(&mut out) {
-        Ok(count) => count,
-        Err(_) => 0,
-    };
+    let count = going(&old, &new).plan_into(&mut out).unwrap_or(0);
     assert!(rt; count > 60);
     let mut gone = [false; 256];
     for write in out.iter().take(count) {
@@ -208,8 +186,8 @@ fn no_address_goes_astray_for_a_moment(rt: HostRuntime) -> Result<(), Fail> {
         }
     }
     assert_eq!(rt; device.len(), new.len());
-    for (i, route) in new.routes().iter().enumerate() {
-        assert_eq!(rt; device.routes().get(i).copied(), Some(*route));
+    for (held, wanted) in device.routes().iter().zip(new.routes()) {
+        assert_eq!(rt; *held, *wanted);
     }
     Ok(())
 }

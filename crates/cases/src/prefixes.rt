@@ -1,6 +1,5 @@
 // Prefixes at their ends: no bits, one, 31, all 32, and bits set where none may be.
 use prefix::{Parting, Prefix};
-use std::cmp::Ordering;
 use std::process::Abort;
 use std::test::Fail;
 
@@ -156,15 +155,24 @@ fn the_order_of_tables(rt: HostRuntime) -> Result<(), Fail> {
         for (j, (b, n)) in ORDERED.iter().enumerate() {
             let p = some(Prefix::new(*a, *m))?;
             let q = some(Prefix::new(*b, *n))?;
-            let expected = if i < j {
-                Ordering::Less
-            } else if i == j {
-                Ordering::Equal
-            } else {
-                Ordering::Greater
-            };
-            assert!(rt; p.compare(q) == expected);
+            assert!(rt; p.compare(q) == i.cmp(&j));
+            assert!(rt; p.cmp(&q) == i.cmp(&j));
         }
+    }
+    Ok(())
+}
+
+#[test]
+fn prefixes_print_in_cidr_notation(rt: HostRuntime) -> Result<(), Fail> {
+    for (network, len, text) in [
+        (0, 0, "0.0.0.0/0"),
+        (0x0a00_0000, 8, "10.0.0.0/8"),
+        (0xc000_0280, 25, "192.0.2.128/25"),
+        (0xffff_ffff, 32, "255.255.255.255/32"),
+    ] {
+        let p = some(Prefix::new(network, len))?;
+        let printed = format!(in rt.alloc(); "{p}")?;
+        assert_eq!(rt; printed.as_str(), text);
     }
     Ok(())
 }

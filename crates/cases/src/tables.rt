@@ -1,16 +1,8 @@
 // Tables and look-ups on worked examples, and against a plain scan.
 use prefix::Prefix;
-use std::alloc::{AllocError, Global};
+use samples::{Numbers, route, table_of};
 use std::test::Fail;
 use table::{Match, Route, Table};
-
-// The first `len` bits of an address, and a next hop.
-fn route(address: u32, len: u8, next_hop: u8) -> Route {
-    Route {
-        prefix: Prefix::host(address).cut(len),
-        next_hop,
-    }
-}
 
 #[test]
 fn no_line_at_all(rt: HostRuntime) {
@@ -24,7 +16,7 @@ fn no_line_at_all(rt: HostRuntime) {
 #[test]
 fn a_line_for_all_addresses(rt: HostRuntime) -> Result<(), Fail> {
     let mut table = Table::new(rt.alloc());
-    assert_eq!(rt; table.put(route(0, 0, 9))?, None);
+    assert_eq!(rt; table.put(route((0, 0, 9)))?, None);
     for address in [0u32, 1, 0x8000_0000, u32::MAX] {
         assert_eq!(rt;
             table.lookup(address),
@@ -39,9 +31,7 @@ fn a_line_for_all_addresses(rt: HostRuntime) -> Result<(), Fail> {
 
 #[test]
 fn a_longer_line_under_a_shorter(rt: HostRuntime) -> Result<(), Fail> {
-    let mut table = Table::new(rt.alloc());
-    table.put(route(0x0a000000, 8, 1))?;
-    table.put(route(0x0a010000, 16, 2))?;
+    let table = table_of(rt.alloc(), &[(0x0a000000, 8, 1), (0x0a010000, 16, 2)])?;
     assert_eq!(rt;
         table.lookup(0x0a010203),
         Some(Match {
@@ -62,9 +52,7 @@ fn a_longer_line_under_a_shorter(rt: HostRuntime) -> Result<(), Fail> {
 
 #[test]
 fn next_hop_0_drops_under_a_line(rt: HostRuntime) -> Result<(), Fail> {
-    let mut table = Table::new(rt.alloc());
-    table.put(route(0x0a000000, 8, 1))?;
-    table.put(route(0x0a010000, 16, 0))?;
+    let table = table_of(rt.alloc(), &[(0x0a000000, 8, 1), (0x0a010000, 16, 0)])?;
     assert_eq!(rt;
         table.lookup(0x0a010203),
         Some(Match {
@@ -82,7 +70,7 @@ fn all_33_lengths_over_one_address(rt: HostRuntime) -> Result<(), Fail> {
     let address = 0x0a01_02ff;
     let mut table = Table::new(rt.alloc());
     for len in 0..33u8 {
-        assert_eq!(rt; table.put(route(address, len, 100 + len))?, None);
+        assert_eq!(rt; table.put(route((address, len, 100 + len)))?, None);
     }
     assert_eq!(rt; table.len(), 33);
     // the longest goes first, and then the next longest sends the address
@@ -135,7 +123,7 @@ fn a_put_replaces_and_a_removal_tells(rt: HostRuntime) -> Result<(), Fail> {
 #[test]
 fn reserved_memory_is_room_for_lines(rt: HostRuntime) -> Result<(), Fail> {
     let mut table = Table::new(rt.alloc());
-    table.put(route(0, 0, 1))?;
+    table.put(route((0, 0, 1)))?;
     table.reserve(40)?;
     assert_eq!(rt; table.len(), 1);
     assert_eq!(rt;
@@ -156,11 +144,11 @@ fn reserved_memory_is_room_for_lines(rt: HostRuntime) -> Result<(), Fail> {
 fn lines_stand_in_their_order(rt: HostRuntime) -> Result<(), Fail> {
     let mut table = Table::new(rt.alloc());
     let rising = [
-        route(0, 0, 1),
-        route(0, 1, 2),
-        route(0x0a000000, 8, 3),
-        route(0x0a000000, 16, 4),
-        route(0x80000000, 1, 5),
+        route((0, 0, 1)),
+        route((0, 1, 2)),
+        route((0x0a000000, 8, 3)),
+        route((0x0a000000, 16, 4)),
+        route((0x80000000, 1, 5)),
     ];
     for line in rising.iter().rev() {
         table.put(*line)?;
@@ -174,54 +162,31 @@ fn lines_stand_in_their_order(rt: HostRuntime) -> Result<(), Fail> {
 
 // What a look-up should give: every line looked at.
 fn scanned(table: &Table, address: u32) -> Option<Match> {
-    let mut best: Option<Match> = None;
-    for line in table.routes() {
-        let len = line.prefix.len();
-        let found = Match {
-            len,
+    table
+        .routes()
+        .iter()
+        .filter(|line| line.prefix.contains(address))
+        .max_by_key(|line| line.prefix.len())
+        .map(|line| Match {
+            len: line.prefix.len(),
             next_hop: line.next_hop,
-        };
-        if line.prefix.contains(address) {
-            best = match best {
-                Some(other) => {
-                    if other.len < len {
-                        Some(found)
-                    } else {
-                        Some(other)
-                    }
-                }
-                None => Some(found),
-            };
-        }
-    }
-    best
+        })
 }
 
-// The next of a fixed sequence of numbers that look random.
-pub(crate) fn next(seed: u64) -> u64 {
-    seed.wrapping_mul(6364136223846793005)
-        .wrapping_add(1442695040888963407)
-}
-
-// Lines crowded into few bits, so that many share their beginnings, and some are put twice.
-fn crowded(heap: Global) -> Result<Table, AllocError> {
-    let mut table = Table::new(heap);
-    let mut seed = 5;
-    for _ in 0..400 {
-        seed = next(seed);
-        let address = ((seed >> 32) & 0xf00f_000f) as u32;
-        table.put(route(address, ((seed >> 20) % 33) as u8, (seed >> 12 & 255) as u8))?;
-    }
-    Ok(table)
+// An address crowded into few bits, so that many share their beginnings.
+fn crowded(number: u64) -> u32 {
+    ((number >> 32) & 0xf00f_000f) as u32
 }
 
 #[test]
 fn lookups_are_what_a_scan_gives(rt: HostRuntime) -> Result<(), Fail> {
-    let table = crowded(rt.alloc())?;
-    let mut seed = 6;
-    for _ in 0..2000 {
-        seed = next(seed);
-        let address = ((seed >> 32) & 0xf00f_000f) as u32;
+    let mut table = Table::new(rt.alloc());
+    // some are put twice
+    for n in Numbers(5).take(400) {
+        table.put(route((crowded(n), ((n >> 20) % 33) as u8, (n >> 12 & 255) as u8)))?;
+    }
+    for n in Numbers(6).take(2000) {
+        let address = crowded(n);
         assert_eq!(rt; table.lookup(address), scanned(&table, address));
     }
     Ok(())

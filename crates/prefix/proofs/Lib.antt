@@ -4,3 +4,4 @@ pub mod Order
 pub mod Numbers
 pub mod Joins
 pub mod Meaning
+pub mod Shifts

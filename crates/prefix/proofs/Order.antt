@@ -71,14 +71,6 @@ before_other p q h n =
       | inr k ↦ let e = before_total p q h k in absurd (both_ways (same p q) n (rw e (same_refl q)))
     ]
 
--- p comes no later than q, and q before r
-pub before_through : (p q r : Bits) → before q p ≡ false → before q r ≡ true → before p r ≡ true
-before_through p q r h k =
-    elim (cases_Bool (before p q)) [
-      | inl l ↦ before_trans p q r l k
-      | inr l ↦ rw (before_total p q l h) k
-    ]
-
 -- beginnings of one address come in the order of their lengths
 pub begins_rise : (n m : ℕ) (a : Bits) → n < m → n < length a → before (take n a) (take m a) ≡ true
 unfolding before

@@ -1,7 +1,8 @@
 -- Strings of bits as lists. Assumes nothing.
-use Rattle.std.proofs.Common.{◌≡◌, ℕ, zero, suc, ◌+◌, ◌<◌, ◌≤◌, min, Bool, true, false, cond, not, ◌&&◌, leb, [], ◌∷◌, ◌++◌, length, get_or, take, drop, sym, refl, ap, ◌∙◌, ap₂, arith, take-append-drop}
+use Rattle.std.proofs.Common.{◌≡◌, ℕ, zero, suc, ◌+◌, ◌<◌, ◌≤◌, min, Bool, true, false, cond, not, ◌&&◌, leb, [], ◌∷◌, ◌++◌, length, length-append, Some, slice_get, get_or, take, drop, sym, refl, ap, ◌∙◌, ap₂, arith, take-append-drop}
 use native.Mathlib.Nat.{sub_self}
 use Rattle.std.proofs.lemmas.List.{take_all, get_or-append_right, length-take-le, drop_more}
+use Rattle.std.proofs.lemmas.Option.{slice_get_within, get_or_from_slice_get}
 use Rattle.std.proofs.lemmas.Bool.{cond_both, and_parts}
 use Rattle.std.proofs.lemmas.Bool.Decides.{nat_tests}
 use Rattle.prefix.specs.Bits.{Bits, same_bit, begins, same, common}
@@ -121,14 +122,20 @@ not_back : (a b : Bool) → a ≡ not b → b ≡ not a
 not_back a true e = sym (ap not e)
 not_back a false e = sym (ap not e)
 
-pub parted_apart : (p q f : Bits) (n : ℕ) (s t : Bool) (r o : Bits) → Common p q n → n < length p → n < length q → f ≡ take n p → Splits p n s r → Splits q n t o
+-- where p splits after n bits it has more than n
+split_past : (p : Bits) (n : ℕ) (s : Bool) (r : Bits) → n ≤ length p → Splits p n s r → n < length p
+split_past p n s r h e = omega (arith, ap length e, length-append (take n p) (s ∷ r), length-take-le n p h)
+
+pub parted_apart : (p q f : Bits) (n : ℕ) (s t : Bool) (r o : Bits) → Common p q n → f ≡ take n p → Splits p n s r → Splits q n t o
     → (p ≡ f ++ (s ∷ r)) × (q ≡ f ++ (not s ∷ o))
-parted_apart p q f n s t r o c h k g e d =
-    let a = split_at p n s r (omega arith) e in
-    let b = split_at q n t o (omega arith) d in
-    let z = not_back s t (sym a ∙ c.apart h k ∙ ap not b) in
+parted_apart p q f n s t r o c g e d =
+    let a = split_at p n s r c.in_p e in
+    let b = split_at q n t o c.in_q d in
+    let z = not_back s t (sym a ∙ c.apart (split_past p n s r c.in_p e) (split_past q n t o c.in_q d) ∙ ap not b) in
     (e ∙ ap (λ (x : Bits). x ++ (s ∷ r)) (sym g), d ∙ ap (λ (x : Bits). x ++ (t ∷ o)) (sym c.shared ∙ sym g) ∙ ap (λ (x : Bool). f ++ (x ∷ o)) z)
 
--- any list at a place within it
-pub split_here : (p : Bits) (n : ℕ) → n < length p → p ≡ take n p ++ (get_or p n false ∷ drop (n + 1) p)
-split_here p n h = sym (take-append-drop n p) ∙ ap (λ (x : Bits). take n p ++ x) (drop_more p n false h)
+-- a list at a place where it has a bit
+pub split_here : (p : Bits) (n : ℕ) (s : Bool) → slice_get p n ≡ Some s → p ≡ take n p ++ (s ∷ drop (n + 1) p)
+split_here p n s e =
+    sym (take-append-drop n p) ∙ ap (λ (x : Bits). take n p ++ x)
+    (drop_more p n false (slice_get_within p n s e) ∙ ap (λ x. x ∷ drop (n + 1) p) (get_or_from_slice_get p n s false e))

@@ -1,5 +1,5 @@
 -- Strings of bits: addresses, and the prefixes that addresses begin with, for any width. Assumes nothing.
-use Rattle.std.specs.Prelude.{◌≡◌, ℕ, zero, suc, ◌+◌, ◌/◌, ◌%◌, ◌^◌, Bool, true, false, cond, not, ◌&&◌, List, [], ◌∷◌, length, ◌==◌}
+use Rattle.std.specs.Prelude.{◌≡◌, ℕ, zero, suc, ◌+◌, ◌/◌, ◌%◌, ◌^◌, Bool, true, false, if◌then◌else◌, not, ◌&&◌, List, [], ◌∷◌, length, ◌==◌}
 
 -- an address or a prefix: its bits, the first (highest) one first
 abbrev pub Bits : Type 0
@@ -31,7 +31,7 @@ same (x ∷ p) (y ∷ q) = same_bit x y && same p q
 unfoldable pub common : Bits → Bits → ℕ
 common [] q = 0
 common (x ∷ p) [] = 0
-common (x ∷ p) (y ∷ q) = cond (same_bit x y) (suc (common p q)) 0
+common (x ∷ p) (y ∷ q) = (if same_bit x y then suc (common p q) else 0)
 
 -- the order of prefixes: whether p comes before q, by the first bit at which they part, and a prefix before those below it.
 -- It is the order by bits as a number, and then by length (`ByNumber` in Laws)

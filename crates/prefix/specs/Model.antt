@@ -1,5 +1,5 @@
 -- What the code's prefixes and answers mean, as strings of bits. Assumes nothing.
-use Rattle.std.specs.Prelude.{◌≡◌, ℕ, ◌-◌, ◌%◌, ◌^◌, Bool, cond, not, ◌&&◌, ◌∷◌, ◌++◌, take, ◌==◌, nat_le}
+use Rattle.std.specs.Prelude.{◌≡◌, ℕ, ◌-◌, ◌%◌, ◌^◌, Bool, if◌then◌else◌, not, ◌&&◌, ◌∷◌, ◌++◌, take, ◌==◌, nat_le}
 use Rattle.std.specs.declared.cmp.Ordering.TheVariants.{Less, Equal, Greater}
 use Rattle.std.specs.declared.cmp.Ordering.{Ordering}
 use Rattle.prefix.specs.declared.cidr.Prefix.{Prefix}
@@ -28,4 +28,4 @@ Parted p q (Apart stem side rest other) = (p ≡ bits stem ++ (side ∷ bits res
 
 -- what a comparison of p with q answers
 abbrev pub compared : Bits → Bits → Ordering
-compared p q = cond (before p q) Less (cond (same p q) Equal Greater)
+compared p q = (if before p q then Less else (if same p q then Equal else Greater))

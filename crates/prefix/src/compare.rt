@@ -5,16 +5,10 @@ use crate::cidr::Prefix;
 use std::cmp::Ordering;
 
 impl Prefix {
-    // The order of tables: by bits as a number, then by length.
+    // The order of tables, said of the bits: it is the derived one.
     pub fn compare(self, other: Prefix) -> Ordering
         ensures { result ≡ compared (bits self) (bits other) }
     {
-        if self.network < other.network {
-            return Ordering::Less;
-        }
-        if self.network > other.network {
-            return Ordering::Greater;
-        }
-        self.len.cmp(&other.len)
+        self.cmp(&other)
     }
 }

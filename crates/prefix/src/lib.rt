@@ -7,6 +7,7 @@ mod laws;
 mod methods;
 mod part;
 mod shift;
+mod text;
 
 pub use cidr::{LENGTHS, Prefix};
 pub use laws::{

@@ -37,6 +37,7 @@ impl Prefix {
     }
 
     // How many bits it has.
+    #[tactic(auto, using(crate::proofs::Meaning::bits_length))]
     pub fn len(self) -> u8
         ensures { result ≡ length (bits self) }
     {
@@ -44,6 +45,7 @@ impl Prefix {
     }
 
     // Its bits as a number of 32 bits, with zeros after them.
+    #[tactic(auto, using(crate::proofs::Meaning::bits_number))]
     pub fn network(self) -> u32
         ensures { result ≡ number 32 (bits self) }
     {

@@ -1,11 +1,11 @@
-ghost use Rattle.std.specs.Prelude.{◌≡◌, ◌+◌, ◌<◌, [], ◌∷◌, ◌++◌, length, take, MatchOption};
+ghost use Rattle.std.specs.Prelude.{◌≡◌, ◌+◌, ◌<◌, ◌≤◌, [], ◌∷◌, ◌++◌, length, take, MatchOption};
 ghost use Rattle.prefix.specs.Model.{bits, Parted};
 
 use crate::cidr::Prefix;
 use crate::shift::{shl, shr};
 
 // How one prefix stands to another.
-#[derive(Clone, Copy)]
+#[derive(Clone, Copy, PartialEq, Eq, Debug)]
 pub enum Parting {
     Same,
     // It goes on below the other: the next bit, and the rest.
@@ -40,16 +40,16 @@ impl Prefix {
         self.join(side, Prefix::empty())
     }
 
-    // The bit after the first `n`, and what follows it.
-    fn after(self, n: u8) -> (bool, Prefix)
-        requires { n < self.len }
-        ensures { bits self ≡ take n (bits self) ++ (result.0 ∷ bits result.1) }
+    // The bit after the first `n`, and what follows it; none where it has no more than `n`.
+    fn after(self, n: u8) -> Option<(bool, Prefix)>
+        ensures { MatchOption result (length (bits self) ≤ n) (λ next. bits self ≡ take n (bits self) ++ (next.0 ∷ bits next.1)) }
     {
+        let side = self.bit(n)?;
         let rest = Prefix {
             network: shl(self.network, n + 1),
             len: self.len - n - 1,
         };
-        (shr(self.network, 31 - n) % 2 == 1, rest)
+        Some((side, rest))
     }
 
     // How it stands to another prefix.
@@ -57,19 +57,13 @@ impl Prefix {
         ensures { Parted (bits self) (bits other) result }
     {
         let n = self.common(other);
-        if n == other.len {
-            if n == self.len {
-                return Parting::Same;
+        match (self.after(n), other.after(n)) {
+            (None, None) => Parting::Same,
+            (Some((side, rest)), None) => Parting::Below(side, rest),
+            (None, Some((side, rest))) => Parting::Above(side, rest),
+            (Some((side, rest)), Some((_, otherwise))) => {
+                Parting::Apart(self.cut(n), side, rest, otherwise)
             }
-            let (side, rest) = self.after(n);
-            return Parting::Below(side, rest);
         }
-        if n == self.len {
-            let (side, rest) = other.after(n);
-            return Parting::Above(side, rest);
-        }
-        let (side, rest) = self.after(n);
-        let (_, otherwise) = other.after(n);
-        Parting::Apart(self.cut(n), side, rest, otherwise)
     }
 }

@@ -3,11 +3,5 @@ use Rattle.std.proofs.lemmas.Bool.Decides.{nat_tests}
 use Rattle.prefix.proofs.Meaning.{before_fields, same_fields}
 use Rattle.prefix.proofs.cidr.Prefix.compare.Goals as goal
 
-pub returns-then-self-other : goal.returns-then-self-other
-returns-then-self-other c = rw (before_fields c.args.self c.args.other, same_fields c.args.self c.args.other) (grind (arith, nat_tests))
-
-pub returns-then-self-other-2 : goal.returns-then-self-other-2
-returns-then-self-other-2 c = rw (before_fields c.args.self c.args.other, same_fields c.args.self c.args.other) (grind (arith, nat_tests))
-
 pub returns : goal.returns
 returns c = rw (before_fields c.args.self c.args.other, same_fields c.args.self c.args.other) (grind (arith, nat_tests))
