@@ -1,9 +1,9 @@
 -- Filling the front of a slice with the writes of a plan, length by length. Assumes nothing.
-use Rattle.std.proofs.Common.{◌≡◌, ℕ, suc, ◌+◌, ◌-◌, ◌<◌, ◌≤◌, Bool, true, false, ◌&&◌, eqb, leb, ◌⊎◌, List, [], ◌∷◌, ◌++◌, map, length, get_or, take, drop, set, filter, sym, refl, ap, ◌∙◌, inl, inr, append_assoc, append-nil, arith, length-append, length-set}
+use Rattle.std.proofs.Common.{◌≡◌, ℕ, suc, ◌+◌, ◌-◌, ◌<◌, ◌≤◌, Bool, true, ◌&&◌, leb, List, [], ◌∷◌, ◌++◌, map, length, take, drop, filter, sym, ap, ◌∙◌, append-nil, arith, length-append}
 use Rattle.std.specs.List.{AllByRecursion}
 use Rattle.std.proofs.ByRecursion.{all_kept_by}
-use Rattle.std.proofs.lemmas.List.{at_drop_more, at_drop_all, take_all, take_more_set, length-map, length-take-le, map_push, nil_from_length}
-use Rattle.std.proofs.lemmas.Bool.{cond_both, cond-false, eq-eqb, ne_eqb, and_parts, leb-true}
+use Rattle.std.proofs.lemmas.List.{take_all, length-map, length-take-le, nil_from_length}
+use Rattle.std.proofs.lemmas.Bool.{cond_both, and_parts, leb-true}
 use Rattle.table.specs.declared.table.Table.{Table}
 use Rattle.table.specs.declared.route.Route.{Route}
 use Rattle.table.specs.Tables.{Entry, Entries, every, fits, rising, distinct}

@@ -1,8 +1,7 @@
 -- Tables of the code: what they hold, and the steps of going through their routes. Assumes nothing.
 use Rattle.std.proofs.Common.{◌≡◌, ℕ, ◌+◌, ◌<◌, ◌≤◌, Bool, true, false, cond, not, eqb, List, ◌∷◌, map, length, get_or, drop, is_some, Some, None, Option, filter, sym, refl, ap, ◌∙◌, arith}
 use Rattle.std.specs.Option.{option_eq}
-use Rattle.std.proofs.lemmas.List.{at_drop_more, drop_all}
-use Rattle.std.proofs.lemmas.Bool.{cond-false, le-ltb, eq-eqb, ne_eqb}
+use Rattle.std.proofs.lemmas.List.{at_drop_more}
 use Rattle.std.proofs.lemmas.Bool.Decides.{nat_tests}
 use Rattle.std.proofs.lemmas.List.Sums.{length-filter, count_by-le-length}
 use Rattle.table.specs.declared.table.Table.{Table}
@@ -11,9 +10,7 @@ use Rattle.table.specs.Tables.{Entry, Entries, distinct, has, holds, at}
 use Rattle.table.specs.Routes.{entry_of}
 use Rattle.table.specs.Model.{entries}
 use Rattle.table.proofs.Rising.{rising_distinct}
-use Rattle.transition.specs.Plans.{changed, fresh, together, crowded}
-use Rattle.transition.specs.declared.refusal.Refusal.TheVariants.{TooManyLines}
-use Rattle.transition.specs.Model.{number_of, refusal}
+use Rattle.transition.specs.Plans.{changed, fresh}
 use Rattle.transition.proofs.Lines.{is_hop, has_at, holds_at}
 use Rattle.transition.proofs.Ending.{both_ways_alike}
 
