@@ -1,8 +1,7 @@
 -- A slice filled in two parts, the second in the free end that the first left; and what a plan is refused by. Assumes nothing.
-use Rattle.std.proofs.Common.{◌≡◌, ℕ, ◌+◌, ◌<◌, ◌≤◌, true, false, cond, ltb, List, ◌++◌, length, take, drop, Some, None, Option, sym, ap, ◌∙◌, subst, ap₂, inl, inr, arith, append_assoc, length-append, drop-drop}
-use Rattle.std.proofs.Math.Seq.{take-append-add, take-append_seam, drop-append-add, drop-append_seam}
+use Rattle.std.proofs.Common.{◌≡◌, ℕ, ◌+◌, ◌≤◌, true, false, List, ◌++◌, length, take, drop, None, ap, ◌∙◌, arith, append_assoc, length-append, drop-drop}
+use Rattle.std.proofs.Math.Seq.{take-append_seam, drop-append_seam}
 use Rattle.std.proofs.lemmas.List.{map-append}
-use Rattle.std.proofs.lemmas.Bool.{cond-true, cond-false, lt-ltb, le-ltb, cases_Bool}
 use Rattle.std.proofs.lemmas.Bool.Decides.{nat_tests}
 use Rattle.std.proofs.lemmas.Grind.{common_steps}
 use Rattle.table.specs.Limits.{device_limit}
@@ -12,8 +11,7 @@ use Rattle.transition.specs.declared.write.Write.{Write}
 use Rattle.transition.specs.Writes.{Writing, moment}
 use Rattle.transition.specs.Plans.{plan, crowded}
 use Rattle.transition.specs.Laws.{Smooth}
-use Rattle.transition.specs.declared.refusal.Refusal.TheVariants.{TooManyLines, SliceTooShort}
-use Rattle.transition.specs.Model.{writing_of, writings_of, number_of, refusal, refusal_in}
+use Rattle.transition.specs.Model.{writings_of, refusal}
 use Rattle.transition.proofs.Ending.{within_device}
 use Rattle.transition.proofs.Smoothness.{plan_is_smooth_lem}
 

@@ -1,16 +1,22 @@
-use Rattle.std.proofs.Common.{add-zero}
-use Rattle.std.proofs.lemmas.Bool.{eq-eqb, ne_eqb}
-use Rattle.transition.proofs.Held.{counting_more}
+use Rattle.std.proofs.Common.{arith}
+use Rattle.std.proofs.lemmas.Grind.{common_steps}
+use Rattle.std.proofs.lemmas.Bool.Decides.{nat_tests}
+use Rattle.prefix.specs.Model.{bits}
+use Rattle.table.specs.Model.{entries}
+use Rattle.table.specs.Routes.{entry_of}
+use Rattle.transition.proofs.Held.{held_by}
+use Rattle.transition.proofs.Lines.{has_at}
 use Rattle.transition.proofs.going.Transition.differing.Goals as goal
 use Rattle.transition.proofs.going.Transition.differing.Goals.{in-Some, in-Some-2, in-None}
 
 pub loop-route-preserved : goal.loop-route-preserved
 loop-route-preserved c =
-    let l = c.loop-route in
-    let r = c.route-item in
-    let more = counting_more c.args.self.old.now c.routes-route-items.result.now l.route-index l.changed l.fresh r.result c.get.result l.invariant c.loop-route-test.true r.is c.get.ensures in
+    let t = c.args.self.old.now in
+    let r = c.route-item.result in
+    let held = held_by (entry_of r) t in
+    let had = has_at (bits r.prefix) (entries t) in
     elim c.match-get.branch [
-      | in-Some w ↦ rw (w.changed-is, w.fresh-is) (simp add-zero at (rw (w.in-Some.is, eq-eqb _ _ w.if-next_hop-route.true) at more))
-      | in-Some-2 w ↦ rw (w.changed-is, w.fresh-is) (simp add-zero at (rw (w.in-Some.is, ne_eqb _ _ w.if-next_hop-route.false) at more))
-      | in-None w ↦ rw (w.changed-is, w.fresh-is) (rw w.in-None.is at more)
+      | in-Some w ↦ grind (arith, common_steps, nat_tests)
+      | in-Some-2 w ↦ grind (arith, common_steps, nat_tests)
+      | in-None w ↦ grind (arith, common_steps, nat_tests)
     ]
