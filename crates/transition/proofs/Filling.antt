@@ -4,12 +4,13 @@ use Rattle.std.specs.List.{AllByRecursion}
 use Rattle.std.proofs.ByRecursion.{all_kept_by}
 use Rattle.std.proofs.lemmas.List.{take_all, length-map, length-take-le, nil_from_length}
 use Rattle.std.proofs.lemmas.Bool.{cond_both, and_parts, leb-true}
+use Rattle.std.proofs.lemmas.Grind.{common_steps}
 use Rattle.table.specs.declared.table.Table.{Table}
 use Rattle.table.specs.declared.route.Route.{Route}
 use Rattle.table.specs.Tables.{Entry, Entries, every, fits, rising, distinct}
 use Rattle.table.specs.Routes.{entry_of}
 use Rattle.table.specs.Model.{entries}
-use Rattle.table.proofs.Picks.{every_parts, every_from}
+use Rattle.table.proofs.Picks.{every_parts}
 use Rattle.table.proofs.Rising.{rising_parts, rising_from}
 use Rattle.table.proofs.Held.{all_sound}
 use Rattle.transition.specs.declared.write.Write.{Write}
@@ -75,11 +76,10 @@ module _ (make : Entry → Writing) (test : Entry → Bool) (rs : List Route) (f
   no_turn n h = let e : 33 - n ≡ 0 = omega arith in rw e
 
 every_kept : (f g : Entry → Bool) (t : Entries) → every f t ≡ true → every f (filter g t) ≡ true
+unfolding every
 every_kept f g [] h = h
 every_kept f g (e ∷ es) h =
-    let s = every_parts f e es h in
-    cond_both (g e) (e ∷ filter g es) (filter g es) (λ t. every f t ≡ true)
-    (λ _. every_from f e (filter g es) s.0 (every_kept f g es s.1)) (λ _. every_kept f g es s.1)
+    let s = every_parts f e es h in let ih = every_kept f g es s.1 in grind (arith, common_steps)
 
 rising_kept : (g : Entry → Bool) (t : Entries) → rising t ≡ true → rising (filter g t) ≡ true
 rising_kept g [] h = h

@@ -1,7 +1,8 @@
 -- No write of a plan is idle, and no prefix is written twice. Assumes nothing.
 use Rattle.std.proofs.Common.{◌≡◌, ℕ, zero, suc, ◌-◌, ◌<◌, ◌≤◌, true, false, ◌⊎◌, [], ◌∷◌, ◌++◌, map, length, take, is_some, Some, None, Option, sym, refl, ap, ◌∙◌, inl, inr, arith}
 use Rattle.std.specs.List.{slice_get}
-use Rattle.std.proofs.lemmas.Bool.{cases_Bool, false_from_ne_true, both_ways, or_left, or_right, or_from, cond-true, cond-false, not_from_false}
+use Rattle.std.proofs.lemmas.Bool.{false_from_ne_true, both_ways, or_from, cond-false, not_from_false}
+use Rattle.std.proofs.lemmas.Grind.{common_steps}
 use Rattle.prefix.specs.Bits.{same}
 use Rattle.prefix.proofs.Strings.{same_eq, same_refl}
 use Rattle.table.specs.Tables.{Entry, Entries, has, holds, distinct, pick, at}
@@ -19,15 +20,15 @@ use Rattle.transition.proofs.Ending.{putting_new}
 nth_has : (es : Entries) (k : ℕ) (e : Entry) → slice_get es k ≡ Some e → has e.prefix es ≡ true
 unfolding has
 nth_has [] k e h = cc
-nth_has (x ∷ xs) zero e h = let z : x ≡ e = cc in or_left (same e.prefix x.prefix) (has e.prefix xs) (rw z (same_refl e.prefix))
-nth_has (x ∷ xs) (suc k) e h = or_right _ _ (nth_has xs k e h)
+nth_has (x ∷ xs) zero e h = grind (arith, common_steps, same_refl e.prefix)
+nth_has (x ∷ xs) (suc k) e h = let ih = nth_has xs k e h in grind (arith, common_steps)
 
 nth_taken : (es : Entries) (j k : ℕ) (e : Entry) → j < k → slice_get es j ≡ Some e → has e.prefix (take k es) ≡ true
 unfolding has
 nth_taken es j zero e l h = absurd (omega arith)
 nth_taken [] j (suc k) e l h = cc
-nth_taken (x ∷ xs) zero (suc k) e l h = let z : x ≡ e = cc in or_left (same e.prefix x.prefix) (has e.prefix (take k xs)) (rw z (same_refl e.prefix))
-nth_taken (x ∷ xs) (suc j) (suc k) e l h = or_right _ _ (nth_taken xs j k e (omega arith) h)
+nth_taken (x ∷ xs) zero (suc k) e l h = grind (arith, common_steps, same_refl e.prefix)
+nth_taken (x ∷ xs) (suc j) (suc k) e l h = let ih = nth_taken xs j k e (omega arith) h in grind (arith, common_steps)
 
 other_first : (x : Entry) (xs : Entries) (k : ℕ) (e : Entry) → has x.prefix xs ≡ false → slice_get xs k ≡ Some e → same e.prefix x.prefix ≡ false
 other_first x xs k e n h =
@@ -44,10 +45,8 @@ none_before (x ∷ xs) (suc k) e d h =
 nth_at : (es : Entries) (k : ℕ) (e : Entry) → distinct es ≡ true → slice_get es k ≡ Some e → at es e.prefix ≡ Some e.hop
 unfolding pick
 nth_at [] k e d h = cc
-nth_at (x ∷ xs) zero e d h = let z : x ≡ e = cc in rw z (cond-true (same e.prefix e.prefix) (Some e.hop) (at xs e.prefix) (same_refl e.prefix))
-nth_at (x ∷ xs) (suc k) e d h =
-    let s = distinct_parts x xs d in
-    cond-false (same e.prefix x.prefix) (Some x.hop) (at xs e.prefix) (other_first x xs k e s.0 h) ∙ nth_at xs k e s.1 h
+nth_at (x ∷ xs) zero e d h = grind (arith, common_steps, same_refl e.prefix)
+nth_at (x ∷ xs) (suc k) e d h = let s = distinct_parts x xs d in let ih = nth_at xs k e s.1 h in grind (arith, common_steps, other_first x xs k e s.0 h)
 
 apart_in : (es : Entries) (j k : ℕ) (e f : Entry) → distinct es ≡ true → j < k → slice_get es j ≡ Some e → slice_get es k ≡ Some f → same e.prefix f.prefix ≡ false
 apart_in es j k e f d l h g =
@@ -90,11 +89,7 @@ nth_plan (e ∷ es) fs (suc k) u h =
 
 changed_off : (o n : Option ℕ) (x : ℕ) → changed_of o n ≡ Some x → is_hop x o ≡ false
 changed_off o None x h = cc
-changed_off o (Some y) x h =
-    elim (cases_Bool (is_hop y o)) [
-      | inl g ↦ let i = rw g at h in cc
-      | inr g ↦ let i = rw g at h in let e : y ≡ x = cc in rw (← e) g
-    ]
+changed_off o (Some y) x h = grind (arith, common_steps)
 
 record Leaves (o n : Option ℕ) : Type 0 where
   stood : is_some o ≡ true

@@ -1,9 +1,10 @@
 -- Every moment of a plan, as one address sees it. Assumes nothing.
-use Rattle.std.proofs.Common.{◌≡◌, ℕ, zero, suc, ◌+◌, ◌-◌, ◌<◌, ◌≤◌, Bool, true, false, cond, not, ◌⊎◌, [], ◌∷◌, length, take, drop, Some, None, Option, sym, refl, ap, ◌∙◌, ap₂, inl, inr, arith}
+use Rattle.std.proofs.Common.{◌≡◌, ℕ, zero, suc, ◌+◌, ◌-◌, ◌<◌, ◌≤◌, Bool, true, false, cond, not, ◌⊎◌, [], ◌∷◌, length, take, drop, None, Option, sym, refl, ap, ◌∙◌, ap₂, inl, inr, arith}
 use Rattle.std.proofs.lemmas.List.{take_all, drop_all, take-take, take-append-drop, drop-drop}
 use Rattle.std.proofs.Math.Bool.{or-false}
 use Rattle.std.proofs.lemmas.Bool.{cases_lt, cond-false, and_parts}
-use Rattle.prefix.specs.Bits.{Bits, same}
+use Rattle.std.proofs.lemmas.Grind.{common_steps}
+use Rattle.prefix.specs.Bits.{Bits}
 use Rattle.table.specs.Tables.{Entries, find, hop_of, has, holds, distinct, fits, sound, pick, at, seen, top}
 use Rattle.table.proofs.Picks.{seen_at}
 use Rattle.table.proofs.Tops.{topmost}
@@ -28,7 +29,7 @@ at_parts : (p : Bits) (k : ℕ) (t : Entries) → has p (drop k t) ≡ false →
 unfolding pick
 at_parts p zero t h = at_none p t h
 at_parts p (suc k) [] h = refl
-at_parts p (suc k) (e ∷ es) h = ap (λ (o : Option ℕ). cond (same p e.prefix) (Some e.hop) o) (at_parts p k es h)
+at_parts p (suc k) (e ∷ es) h = let ih = at_parts p k es h in grind (arith, common_steps)
 
 has_parts : (p : Bits) (k : ℕ) (t : Entries) → has p (drop k t) ≡ false → has p t ≡ has p (take k t)
 has_parts p k t h =

@@ -1,8 +1,9 @@
 -- What stands at a prefix after some of a plan's writes. Assumes nothing.
-use Rattle.std.proofs.Common.{◌≡◌, ℕ, zero, suc, ◌-◌, Bool, true, false, cond, not, ◌||◌, eqb, List, [], ◌∷◌, ◌++◌, map, length, take, is_some, Some, None, Option, sym, refl, ap, ◌∙◌, ap₂, inl, inr, arith}
+use Rattle.std.proofs.Common.{◌≡◌, ℕ, zero, suc, ◌-◌, Bool, true, cond, not, List, [], ◌∷◌, ◌++◌, map, length, take, is_some, Some, None, Option, refl, ap, ◌∙◌, ap₂, arith}
 use Rattle.std.proofs.lemmas.List.{take-map, length-map}
-use Rattle.std.proofs.lemmas.Bool.{cases_Bool, cond-true, cond-false, eqb-true}
-use Rattle.prefix.specs.Bits.{Bits, same}
+use Rattle.std.proofs.lemmas.Grind.{common_steps}
+use Rattle.std.proofs.lemmas.Bool.Decides.{nat_tests}
+use Rattle.prefix.specs.Bits.{Bits}
 use Rattle.prefix.proofs.Strings.{same_eq}
 use Rattle.table.specs.Tables.{Entries, has, distinct, pick, at, holds, put}
 use Rattle.table.proofs.Picks.{at_put, at_without}
@@ -25,25 +26,14 @@ puts_at p [] t d = refl
 puts_at p (e ∷ es) t d =
     let s = distinct_parts e es d in
     let ih = puts_at p es (put e t) s.1 in
-    ih ∙ elim (cases_Bool (same p e.prefix)) [
-      | inl y ↦
-          let n : at es p ≡ None = at_none p es (rw (same_eq p e.prefix y) s.0) in
-          ap₂ option_or n (at_put e t p ∙ cond-true (same p e.prefix) (Some e.hop) (at t p) y) ∙ rw y
-      | inr y ↦ ap (option_or (at es p)) (at_put e t p ∙ cond-false (same p e.prefix) (Some e.hop) (at t p) y) ∙ rw y
-    ]
-
-gone_twice : (u v : Bool) (o : Option ℕ) → cond v None (cond u None o) ≡ cond (u || v) None o
-gone_twice true true o = refl
-gone_twice true false o = refl
-gone_twice false true o = refl
-gone_twice false false o = refl
+    grind (arith, common_steps, same_eq p e.prefix, at_none p es, at_put e t p)
 
 -- lines that are dropped are gone, and the others as they were
 pub drops_at : (p : Bits) (fs t : Entries) → at (written_all (map dropping fs) t) p ≡ cond (has p fs) None (at t p)
 unfolding written_all has
 drops_at p [] t = refl
 drops_at p (f ∷ fs) t =
-    drops_at p fs (written (dropping f) t) ∙ ap (λ (o : Option ℕ). cond (has p fs) None o) (at_without f.prefix t p) ∙ gone_twice (same p f.prefix) (has p fs) (at t p)
+    let ih = drops_at p fs (written (dropping f) t) in grind (arith, common_steps, at_without f.prefix t p)
 
 module _ {X : Type 0} where
   pub take_append : (k : ℕ) (xs ys : List X) → take k (xs ++ ys) ≡ take k xs ++ take (k - length xs) ys
@@ -118,11 +108,7 @@ leaving_at old new p d = at_sorted shortest_first p (fresh new old) (distinct_ke
 overlay_is : (o n : Option ℕ) → option_or (changed_of o n) o ≡ option_or n o
 overlay_is o None = refl
 overlay_is None (Some x) = refl
-overlay_is (Some y) (Some x) =
-    elim (cases_Bool (eqb x y)) [
-      | inl h ↦ rw h (ap Some (sym (eqb-true x y h)))
-      | inr h ↦ rw h
-    ]
+overlay_is (Some y) (Some x) = grind (arith, common_steps, nat_tests)
 
 pub overlay : (old new : Entries) (p : Bits) → distinct old ≡ true → distinct new ≡ true → option_or (at (putting old new) p) (at old p) ≡ option_or (at new p) (at old p)
 overlay old new p d e = ap (λ (x : Option ℕ). option_or x (at old p)) (putting_at old new p d e) ∙ overlay_is (at old p) (at new p)

@@ -1,7 +1,9 @@
 -- The plan is as the rules say, and it is the only list of writes that is. Assumes nothing.
-use Rattle.std.proofs.Common.{◌≡◌, ℕ, Bool, true, false, not, ◌&&◌, ◌||◌, eqb, ltb, List, [], ◌∷◌, ◌++◌, map, is_some, Some, None, Option, sym, refl, ap, ◌∙◌, ap₂, inl, inr}
+use Rattle.std.proofs.Common.{arith, ◌≡◌, ℕ, Bool, true, false, not, ◌&&◌, ◌||◌, eqb, ltb, List, [], ◌∷◌, ◌++◌, map, is_some, Some, None, Option, sym, refl, ap, ◌∙◌, ap₂}
 use Rattle.std.specs.List.{AllByRecursion}
-use Rattle.std.proofs.lemmas.Bool.{cases_Bool, and_from, eqb-true}
+use Rattle.std.proofs.lemmas.Bool.{and_from}
+use Rattle.std.proofs.lemmas.Grind.{common_steps}
+use Rattle.std.proofs.lemmas.Bool.Decides.{nat_tests}
 use Rattle.prefix.specs.Bits.{Bits, same}
 use Rattle.prefix.proofs.Strings.{same_eq, same_refl}
 use Rattle.table.specs.Tables.{Entry, Entries, has, holds, distinct, at}
@@ -38,27 +40,10 @@ unfolding among
 among_past p [] fs = among_dropped p fs
 among_past p (x ∷ xs) fs = among_past p xs fs
 
-is_hop_eq : (x y : ℕ) (o : Option ℕ) → is_hop y o ≡ false → eqb x y ≡ (eqb x y && not (is_hop x o))
-is_hop_eq x y o h =
-    elim (cases_Bool (eqb x y)) [
-      | inl k ↦ let e = eqb-true x y k in let g : is_hop x o ≡ false = rw e h in rw (k, g)
-      | inr k ↦ rw k
-    ]
-
-is_hop_off : (x y : ℕ) (o : Option ℕ) → is_hop y o ≡ true → false ≡ (eqb x y && not (is_hop x o))
-is_hop_off x y o h =
-    elim (cases_Bool (eqb x y)) [
-      | inl k ↦ let e = eqb-true x y k in let g : is_hop x o ≡ true = rw e h in rw (k, g)
-      | inr k ↦ rw k
-    ]
-
 changed_is : (o n : Option ℕ) (x : ℕ) → is_hop x (changed_of o n) ≡ (is_hop x n && not (is_hop x o))
 changed_is o None x = refl
-changed_is o (Some y) x =
-    elim (cases_Bool (is_hop y o)) [
-      | inl k ↦ rw k (is_hop_off x y o k)
-      | inr k ↦ rw k (is_hop_eq x y o k)
-    ]
+changed_is None (Some y) x = grind (arith, common_steps, nat_tests)
+changed_is (Some z) (Some y) x = grind (arith, common_steps, nat_tests)
 
 fresh_is : (o n : Option ℕ) → is_some (fresh_of n o) ≡ (is_some o && not (is_some n))
 fresh_is None n = refl
