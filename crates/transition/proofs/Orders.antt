@@ -1,5 +1,5 @@
 -- The orders of writes, by length and then by bits, are strict and total. Assumes nothing.
-use Rattle.std.proofs.Common.{arith, ◌≡◌, ℕ, Bool, true, false, ◌&&◌, eqb, ltb, ◌⊎◌, length, sym, ◌∙◌, inl, inr}
+use Rattle.std.proofs.Common.{arith, ◌≡◌, ℕ, Bool, true, false, ◌&&◌, eqb, ltb, ◌⊎◌, length, sym, inl, inr}
 use Rattle.std.proofs.lemmas.Bool.{or_cases, or_from, or_left, or_right, and_parts, and_from, and_right, both_ways, eqb-true, eq-eqb, ltb-true}
 use Rattle.std.proofs.lemmas.Grind.{common_steps}
 use Rattle.std.proofs.lemmas.Bool.Decides.{nat_tests}
@@ -37,17 +37,7 @@ module _ (first : ℕ → ℕ → Bool) (strict : Strict first) where
   order_other p q h n = grind (arith, nat_tests, common_steps, before_other p q, strict.total (length p) (length q))
 
   pub order_trans : (p q r : Bits) → by_length first p q ≡ true → by_length first q r ≡ true → by_length first p r ≡ true
-  order_trans p q r h k =
-      elim (ways p q h) [
-        | inl x ↦ elim (ways q r k) [
-          | inl y ↦ by_first p r (strict.trans (length p) (length q) (length r) x y)
-          | inr y ↦ by_first p r (rw (← y.0) x)
-        ]
-        | inr x ↦ elim (ways q r k) [
-          | inl y ↦ by_first p r (rw x.0 y)
-          | inr y ↦ by_bits p r (x.0 ∙ y.0) (before_trans p q r x.1 y.1)
-        ]
-      ]
+  order_trans p q r h k = grind (arith, nat_tests, common_steps, strict.trans (length p) (length q) (length r), before_trans p q r)
 
   pub order_sorted : (t : Entries) → distinct t ≡ true → Pairs (λ e f. by_length first e.prefix f.prefix ≡ true) (sorted_by (by_length first) t)
   order_sorted t d = sorted_pairs (by_length first) order_other order_trans t d

@@ -1,9 +1,9 @@
 -- How far the lines reach with which an address begins, in lists where the longest or the shortest come first. Assumes nothing.
-use Rattle.std.proofs.Common.{◌≡◌, ℕ, zero, suc, ◌<◌, ◌≤◌, max, Bool, true, false, cond, ◌⊎◌, [], ◌∷◌, ◌++◌, length, take, drop, sym, refl, ap, ◌∙◌, inl, inr, arith}
+use Rattle.std.proofs.Common.{◌≡◌, ℕ, zero, suc, ◌<◌, ◌≤◌, max, Bool, true, false, cond, ◌⊎◌, [], ◌∷◌, ◌++◌, length, take, drop, refl, ap, ◌∙◌, arith}
 use Rattle.std.specs.List.{AllByRecursion}
 use Rattle.std.proofs.ByRecursion.{All-weaker, All-drop}
 use Rattle.std.proofs.lemmas.List.{length-take-le, take-append-drop}
-use Rattle.std.proofs.lemmas.Bool.{cond_both, false_from_ne_true, or_from, or_parts}
+use Rattle.std.proofs.lemmas.Bool.{cond_both, or_from, or_parts}
 use Rattle.std.proofs.lemmas.Grind.{common_steps}
 use Rattle.prefix.specs.Bits.{Bits, begins, same}
 use Rattle.prefix.proofs.Strings.{same_eq}
@@ -43,15 +43,7 @@ abbrev pub Farther : Bits → Bits → Type 0
 Farther z x = (length z < length x) ⊎ ((length z ≡ length x) × (z ≡ x → ⊥))
 
 farther_apart : (a z x : Bits) (n : ℕ) → n ≤ length a → begins z a ≡ true → n ≤ length z → Farther z x → same (take n a) x ≡ false
-farther_apart a z x n l b h f =
-    false_from_ne_true (same (take n a) x)
-    (λ y.
-    let e = same_eq (take n a) x y in
-    let m : length x ≡ n = sym (ap length e) ∙ length-take-le n a l in
-    elim f [
-      | inl k ↦ omega arith
-      | inr k ↦ k.1 ((begins_is z a b).1 ∙ ap (λ j. take j a) (k.0 ∙ m) ∙ e)
-    ])
+farther_apart a z x n l b h f = grind (arith, common_steps, same_eq (take n a) x, length-take-le n a l, begins_is z a b)
 
 free_of : (a z : Bits) (n : ℕ) (xs : Entries) → n ≤ length a → begins z a ≡ true → n ≤ length z → AllByRecursion (λ x. Farther z x.prefix) xs → has (take n a) xs ≡ false
 unfolding has
