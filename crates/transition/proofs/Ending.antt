@@ -1,7 +1,8 @@
 -- The end of a plan, and how many lines there are on the way. Assumes nothing.
-use Rattle.std.proofs.Common.{◌≡◌, ℕ, ◌+◌, ◌-◌, Bool, true, false, cond, not, ◌||◌, List, [], ◌∷◌, ◌++◌, map, length, take, is_some, Some, None, Option, sym, refl, ap, ◌∙◌, ap₂, inl, inr, arith}
+use Rattle.std.proofs.Common.{◌≡◌, ℕ, ◌+◌, ◌-◌, Bool, true, false, cond, not, ◌||◌, List, [], ◌∷◌, ◌++◌, map, length, take, is_some, Some, None, Option, sym, refl, ap, ◌∙◌, ap₂, arith}
 use Rattle.std.proofs.lemmas.List.{take_all, length-map, length-append}
-use Rattle.std.proofs.lemmas.Bool.{cases_Bool, both_ways, or_left, or_right, or_from, ltb-true, ltb-false, lt-ltb}
+use Rattle.std.proofs.Math.Bool.{or_comm}
+use Rattle.std.proofs.lemmas.Bool.{true_from_ne_false, both_ways, or_left, or_right, or_from, ltb-true, ltb-false, lt-ltb}
 use Rattle.prefix.specs.Bits.{Bits}
 use Rattle.prefix.proofs.Strings.{same_refl}
 use Rattle.table.specs.Tables.{Entry, Entries, has, distinct, rising, at}
@@ -12,7 +13,8 @@ use Rattle.table.proofs.Alike.{rising_once}
 use Rattle.transition.specs.Writes.{Writing, Put, Drop, written, written_all, moment}
 use Rattle.transition.specs.Plans.{changed, fresh, longest_first, shortest_first, dropping, plan, together}
 use Rattle.transition.specs.Laws.{Ends, EndsRising, NeverMore, WithinDevice, CrowdedIs, PlanCount, BothWays}
-use Rattle.transition.proofs.Lines.{alt, has_at, same_lines, distinct_all, has_append, has_take, distinct_kept, length_sorted, covered, as_many}
+use Rattle.std.specs.Option.{option_or}
+use Rattle.transition.proofs.Lines.{has_at, same_lines, distinct_all, has_append, has_take, distinct_kept, length_sorted, covered, as_many}
 use Rattle.transition.proofs.Overlays.{putting, leaving, changed_of, fresh_of, moment_at, putting_at, ended, fresh_at}
 
 pub plan_count : PlanCount
@@ -31,7 +33,7 @@ module _ (old new : Entries) (od : distinct old ≡ true) (nd : distinct new ≡
       let j = length_sorted shortest_first (fresh new old) in
       ap (λ (us : List Writing). at (written_all us old) p) (sym (take_all n (plan old new) (omega arith)))
       ∙ moment_at old new nd n p
-      ∙ ap₂ (λ (fs es : Entries). cond (has p fs) None (alt (at es p) (at old p)))
+      ∙ ap₂ (λ (fs es : Entries). cond (has p fs) None (option_or (at es p) (at old p)))
       (take_all (n - length (putting old new)) (leaving old new) (omega arith)) (take_all n (putting old new) (omega arith))
       ∙ ended old new p od nd
 
@@ -75,7 +77,7 @@ distinct_append (x ∷ xs) u d e h =
     (distinct_append xs u s.1 e (λ p y. h p (or_right _ _ y)))
 
 fresh_other : (o n : Option ℕ) → is_some o ≡ true → is_some (fresh_of o n) ≡ false
-fresh_other None n h = absurd (both_ways false refl h)
+fresh_other None n h = cc
 fresh_other (Some y) None h = refl
 fresh_other (Some y) (Some x) h = refl
 
@@ -84,12 +86,6 @@ either : (o n : Option ℕ) → (is_some o || is_some (fresh_of o n)) ≡ (is_so
 either None None = refl
 either None (Some x) = refl
 either (Some y) n = refl
-
-or_turn : (x y : Bool) → (x || y) ≡ (y || x)
-or_turn true true = refl
-or_turn true false = refl
-or_turn false true = refl
-or_turn false false = refl
 
 module _ (old new : Entries) (nd : distinct new ≡ true) where
   pub fresh_has : (p : Bits) → has p (fresh old new) ≡ is_some (fresh_of (at old p) (at new p))
@@ -107,13 +103,13 @@ module _ (old new : Entries) (nd : distinct new ≡ true) where
 pub both_ways_alike : BothWays
 both_ways_alike old new od nd =
     let m = as_many (old ++ fresh old new) (new ++ fresh new old) (union_distinct old new nd od) (union_distinct new old od nd)
-    (λ p. union_has old new nd p ∙ or_turn (is_some (at old p)) (is_some (at new p)) ∙ sym (union_has new old od p)) in
+    (λ p. union_has old new nd p ∙ or_comm (is_some (at old p)) (is_some (at new p)) ∙ sym (union_has new old od p)) in
     sym (length-append old (fresh old new)) ∙ m ∙ length-append new (fresh new old)
 
 -- on the way no prefix stands that neither table has
-from_either : (b : Bool) (x o n : Option ℕ) → is_some (cond b None (alt x o)) ≡ true → (is_some x ≡ true → is_some n ≡ true) → (is_some o || is_some n) ≡ true
-from_either true x o n h k = absurd (both_ways false refl h)
-from_either false None None n h k = absurd (both_ways false refl h)
+from_either : (b : Bool) (x o n : Option ℕ) → is_some (cond b None (option_or x o)) ≡ true → (is_some x ≡ true → is_some n ≡ true) → (is_some o || is_some n) ≡ true
+from_either true x o n h k = cc
+from_either false None None n h k = cc
 from_either false None (Some y) n h k = refl
 from_either false (Some x) None n h k = k refl
 from_either false (Some x) (Some y) n h k = refl
@@ -128,16 +124,14 @@ putting_new old new p od nd h =
 
 taken_has : (p : Bits) (k : ℕ) (t : Entries) → has p (take k t) ≡ true → has p t ≡ true
 taken_has p k t h =
-    elim (cases_Bool (has p t)) [
-      | inl y ↦ y
-      | inr y ↦ absurd (both_ways (has p (take k t)) (has_take p k t y) h)
-    ]
+    true_from_ne_false (has p t) (λ y. both_ways (has p (take k t)) (has_take p k t y) h)
 
 pub never_more : NeverMore
 never_more old new od nd k =
     let es = putting old new in
     let fs = leaving old new in
     let c = covered (moment (plan old new) old k) (old ++ fresh old new) (distinct_all (take k (plan old new)) old od)
+    (union_distinct old new nd od)
     (λ p y. union_has old new nd p ∙ from_either (has p (take (k - length es) fs)) (at (take k es) p) (at old p) (at new p)
     (sym (ap is_some (moment_at old new nd k p)) ∙ sym (has_at p (moment (plan old new) old k)) ∙ y)
     (λ z. sym (has_at p new) ∙ putting_new old new p od nd (taken_has p k es (has_at p (take k es) ∙ z)))) in

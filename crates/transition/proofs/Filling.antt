@@ -1,15 +1,16 @@
 -- Filling the front of a slice with the writes of a plan, length by length. Assumes nothing.
-use Rattle.std.proofs.Common.{◌≡◌, ℕ, suc, ◌+◌, ◌-◌, ◌<◌, ◌≤◌, Bool, true, false, ◌&&◌, eqb, leb, ◌⊎◌, List, [], ◌∷◌, ◌++◌, map, length, get_or, take, drop, set, filter, sym, refl, ap, ◌∙◌, inl, inr, append_assoc, append-nil, arith, length-append, length-set}
+use Rattle.std.proofs.Common.{◌≡◌, ℕ, suc, ◌+◌, ◌-◌, ◌<◌, ◌≤◌, Bool, true, ◌&&◌, leb, List, [], ◌∷◌, ◌++◌, map, length, take, drop, filter, sym, ap, ◌∙◌, append-nil, arith, length-append}
 use Rattle.std.specs.List.{AllByRecursion}
 use Rattle.std.proofs.ByRecursion.{all_kept_by}
-use Rattle.std.proofs.lemmas.List.{at_drop_more, at_drop_all, take_all, take_more_set, length-map, length-take-le, map_push, nil_from_length}
-use Rattle.std.proofs.lemmas.Bool.{cond_both, cond-false, eq-eqb, ne_eqb, and_parts, leb-true}
+use Rattle.std.proofs.lemmas.List.{take_all, length-map, length-take-le, nil_from_length}
+use Rattle.std.proofs.lemmas.Bool.{cond_both, and_parts, leb-true}
+use Rattle.std.proofs.lemmas.Grind.{common_steps}
 use Rattle.table.specs.declared.table.Table.{Table}
 use Rattle.table.specs.declared.route.Route.{Route}
 use Rattle.table.specs.Tables.{Entry, Entries, every, fits, rising, distinct}
 use Rattle.table.specs.Routes.{entry_of}
 use Rattle.table.specs.Model.{entries}
-use Rattle.table.proofs.Picks.{every_parts, every_from}
+use Rattle.table.proofs.Picks.{every_parts}
 use Rattle.table.proofs.Rising.{rising_parts, rising_from}
 use Rattle.table.proofs.Held.{all_sound}
 use Rattle.transition.specs.declared.write.Write.{Write}
@@ -27,9 +28,6 @@ pub record Filled (total : List Writing) (out : List Write) (n : ℕ) (rest : Li
   pub front : writings_of (take n out) ++ rest ≡ total
   pub within : n ≤ length out
 
-pub filled_none : (total : List Writing) (out : List Write) → Filled total out 0 total
-filled_none total out = record { front = refl; within = omega arith }
-
 filled_length : (total : List Writing) (out : List Write) (n : ℕ) (rest : List Writing) → Filled total out n rest → n + length rest ≡ length total
 filled_length total out n rest f =
     let a = length-append (writings_of (take n out)) rest in
@@ -37,16 +35,6 @@ filled_length total out n rest f =
     let c = length-take-le n out f.within in
     let d = ap length f.front in
     omega arith
-
-pub filled_room : (total : List Writing) (out : List Write) (n : ℕ) (u : Writing) (rest : List Writing) → Filled total out n (u ∷ rest) → length total ≤ length out → n < length out
-filled_room total out n u rest f h = omega (arith, filled_length total out n (u ∷ rest) f)
-
-pub filled_more : (total : List Writing) (out : List Write) (n : ℕ) (w : Write) (rest : List Writing) → Filled total out n (writing_of w ∷ rest) → n < length out →
-    Filled total (set out n w) (n + 1) rest
-filled_more total out n w rest f h = record {
-  front = ap (λ (us : List Writing). us ++ rest) (ap writings_of (take_more_set out n w h) ∙ map_push writing_of (take n out) w) ∙ append_assoc (writings_of (take n out)) (writing_of w ∷ []) rest ∙ f.front;
-  within = rw length-set (omega arith);
-}
 
 -- where as many are written as there are places and writes, all is written
 filled_full : (total : List Writing) (out : List Write) (n : ℕ) (rest : List Writing) → Filled total out n rest → n ≡ length out → length out ≡ length total → writings_of out ≡ total
@@ -66,30 +54,6 @@ module _ (make : Entry → Writing) (test : Entry → Bool) (rs : List Route) wh
   abbrev pub partial : ℕ → List ℕ → ℕ → List Writing
   partial n ns i = map make (tier n (filter test (map entry_of (drop i rs))) ++ tiers ns (filter test (map entry_of rs)))
 
-  pub partial_all : (n : ℕ) (ns : List ℕ) (i : ℕ) → length rs ≤ i → partial n ns i ≡ remaining ns
-  partial_all n ns i h = at_drop_all (λ (xs : List Route). map make (tier n (filter test (map entry_of xs)) ++ tiers ns (filter test (map entry_of rs)))) rs i h
-
-  skip_one : (n : ℕ) (e : Entry) (es : Entries) → (length e.prefix ≡ n → ⊥) ⊎ (test e ≡ false) → tier n (filter test (e ∷ es)) ≡ tier n (filter test es)
-  skip_one n e es (inl h) =
-      cond_both (test e) (e ∷ filter test es) (filter test es) (λ t. tier n t ≡ tier n (filter test es))
-      (λ _. cond-false (eqb (length e.prefix) n) (e ∷ tier n (filter test es)) (tier n (filter test es)) (ne_eqb (length e.prefix) n h)) (λ _. refl)
-  skip_one n e es (inr h) = rw h
-
-  take_one : (n : ℕ) (e : Entry) (es : Entries) → length e.prefix ≡ n → test e ≡ true → tier n (filter test (e ∷ es)) ≡ e ∷ tier n (filter test es)
-  take_one n e es h g = rw (g, eq-eqb (length e.prefix) n h)
-
-  module _ (n : ℕ) (ns : List ℕ) (i : ℕ) (r : Route) (h : i < length rs) (is : r ≡ get_or rs i r) where
-    at_route : partial n ns i ≡ map make (tier n (filter test (entry_of r ∷ map entry_of (drop (i + 1) rs))) ++ tiers ns (filter test (map entry_of rs)))
-    at_route =
-        at_drop_more (λ (xs : List Route). map make (tier n (filter test (map entry_of xs)) ++ tiers ns (filter test (map entry_of rs)))) rs i r h
-        ∙ ap (λ (x : Route). map make (tier n (filter test (entry_of x ∷ map entry_of (drop (i + 1) rs))) ++ tiers ns (filter test (map entry_of rs)))) (sym is)
-
-    pub partial_skip : (length (entry_of r).prefix ≡ n → ⊥) ⊎ (test (entry_of r) ≡ false) → partial n ns i ≡ partial n ns (i + 1)
-    partial_skip s = at_route ∙ ap (λ (es : Entries). map make (es ++ tiers ns (filter test (map entry_of rs)))) (skip_one n (entry_of r) (map entry_of (drop (i + 1) rs)) s)
-
-    pub partial_take : length (entry_of r).prefix ≡ n → test (entry_of r) ≡ true → partial n ns i ≡ make (entry_of r) ∷ partial n ns (i + 1)
-    partial_take e s = at_route ∙ ap (λ (es : Entries). map make (es ++ tiers ns (filter test (map entry_of rs)))) (take_one n (entry_of r) (map entry_of (drop (i + 1) rs)) e s)
-
 -- BY TURNS
 
 module _ (make : Entry → Writing) (test : Entry → Bool) (rs : List Route) (f : ℕ → ℕ) where
@@ -107,19 +71,15 @@ module _ (make : Entry → Writing) (test : Entry → Bool) (rs : List Route) (f
       let z : n + 1 ≡ suc n = omega arith in
       rw (e, z)
 
-  pub turn_ends : (n i : ℕ) → length rs ≤ i → within_turn n i ≡ at_turn (n + 1)
-  turn_ends n i h = partial_all make test rs (f n) (turns f (33 - (n + 1)) (n + 1)) i h
-
   pub no_turn : (n : ℕ) → 33 ≤ n → at_turn n ≡ []
   unfolding tiers turns
   no_turn n h = let e : 33 - n ≡ 0 = omega arith in rw e
 
 every_kept : (f g : Entry → Bool) (t : Entries) → every f t ≡ true → every f (filter g t) ≡ true
+unfolding every
 every_kept f g [] h = h
 every_kept f g (e ∷ es) h =
-    let s = every_parts f e es h in
-    cond_both (g e) (e ∷ filter g es) (filter g es) (λ t. every f t ≡ true)
-    (λ _. every_from f e (filter g es) s.0 (every_kept f g es s.1)) (λ _. every_kept f g es s.1)
+    let s = every_parts f e es h in let ih = every_kept f g es s.1 in grind (arith, common_steps)
 
 rising_kept : (g : Entry → Bool) (t : Entries) → rising t ≡ true → rising (filter g t) ≡ true
 rising_kept g [] h = h

@@ -1,7 +1,8 @@
 -- No write of a plan is idle, and no prefix is written twice. Assumes nothing.
 use Rattle.std.proofs.Common.{◌≡◌, ℕ, zero, suc, ◌-◌, ◌<◌, ◌≤◌, true, false, ◌⊎◌, [], ◌∷◌, ◌++◌, map, length, take, is_some, Some, None, Option, sym, refl, ap, ◌∙◌, inl, inr, arith}
 use Rattle.std.specs.List.{slice_get}
-use Rattle.std.proofs.lemmas.Bool.{cases_Bool, both_ways, or_left, or_right, or_from, cond-true, cond-false, not_from_false}
+use Rattle.std.proofs.lemmas.Bool.{false_from_ne_true, both_ways, or_from, cond-false, not_from_false}
+use Rattle.std.proofs.lemmas.Grind.{common_steps}
 use Rattle.prefix.specs.Bits.{same}
 use Rattle.prefix.proofs.Strings.{same_eq, same_refl}
 use Rattle.table.specs.Tables.{Entry, Entries, has, holds, distinct, pick, at}
@@ -9,7 +10,8 @@ use Rattle.table.proofs.Counts.{distinct_parts}
 use Rattle.transition.specs.Writes.{Writing, Put, moment, works}
 use Rattle.transition.specs.Plans.{dropping, plan}
 use Rattle.transition.specs.Laws.{NoneIdle, NoneTwice}
-use Rattle.transition.proofs.Lines.{alt, is_hop, has_at, at_none, holds_at, distinct_all}
+use Rattle.std.specs.Option.{option_or}
+use Rattle.transition.proofs.Lines.{is_hop, has_at, at_none, holds_at, distinct_all}
 use Rattle.transition.proofs.Overlays.{putting, leaving, changed_of, fresh_of, moment_at, putting_at, leaving_at, distinct_putting, distinct_leaving}
 use Rattle.transition.proofs.Ending.{putting_new}
 
@@ -17,23 +19,20 @@ use Rattle.transition.proofs.Ending.{putting_new}
 
 nth_has : (es : Entries) (k : ℕ) (e : Entry) → slice_get es k ≡ Some e → has e.prefix es ≡ true
 unfolding has
-nth_has [] k e h = let z : ◌≡◌ {A = ℕ} 0 1 = cc in absurd (omega arith)
-nth_has (x ∷ xs) zero e h = let z : x ≡ e = cc in or_left (same e.prefix x.prefix) (has e.prefix xs) (rw z (same_refl e.prefix))
-nth_has (x ∷ xs) (suc k) e h = or_right _ _ (nth_has xs k e h)
+nth_has [] k e h = cc
+nth_has (x ∷ xs) zero e h = grind (arith, common_steps, same_refl e.prefix)
+nth_has (x ∷ xs) (suc k) e h = let ih = nth_has xs k e h in grind (arith, common_steps)
 
 nth_taken : (es : Entries) (j k : ℕ) (e : Entry) → j < k → slice_get es j ≡ Some e → has e.prefix (take k es) ≡ true
 unfolding has
 nth_taken es j zero e l h = absurd (omega arith)
-nth_taken [] j (suc k) e l h = let z : ◌≡◌ {A = ℕ} 0 1 = cc in absurd (omega arith)
-nth_taken (x ∷ xs) zero (suc k) e l h = let z : x ≡ e = cc in or_left (same e.prefix x.prefix) (has e.prefix (take k xs)) (rw z (same_refl e.prefix))
-nth_taken (x ∷ xs) (suc j) (suc k) e l h = or_right _ _ (nth_taken xs j k e (omega arith) h)
+nth_taken [] j (suc k) e l h = cc
+nth_taken (x ∷ xs) zero (suc k) e l h = grind (arith, common_steps, same_refl e.prefix)
+nth_taken (x ∷ xs) (suc j) (suc k) e l h = let ih = nth_taken xs j k e (omega arith) h in grind (arith, common_steps)
 
 other_first : (x : Entry) (xs : Entries) (k : ℕ) (e : Entry) → has x.prefix xs ≡ false → slice_get xs k ≡ Some e → same e.prefix x.prefix ≡ false
 other_first x xs k e n h =
-    elim (cases_Bool (same e.prefix x.prefix)) [
-      | inl y ↦ absurd (both_ways (has x.prefix xs) n (rw (← same_eq e.prefix x.prefix y) (nth_has xs k e h)))
-      | inr y ↦ y
-    ]
+    false_from_ne_true (same e.prefix x.prefix) (λ y. both_ways (has x.prefix xs) n (rw (← same_eq e.prefix x.prefix y) (nth_has xs k e h)))
 
 -- its prefix is not among those before it
 none_before : (es : Entries) (k : ℕ) (e : Entry) → distinct es ≡ true → slice_get es k ≡ Some e → has e.prefix (take k es) ≡ false
@@ -45,18 +44,13 @@ none_before (x ∷ xs) (suc k) e d h =
 
 nth_at : (es : Entries) (k : ℕ) (e : Entry) → distinct es ≡ true → slice_get es k ≡ Some e → at es e.prefix ≡ Some e.hop
 unfolding pick
-nth_at [] k e d h = let z : ◌≡◌ {A = ℕ} 0 1 = cc in absurd (omega arith)
-nth_at (x ∷ xs) zero e d h = let z : x ≡ e = cc in rw z (cond-true (same e.prefix e.prefix) (Some e.hop) (at xs e.prefix) (same_refl e.prefix))
-nth_at (x ∷ xs) (suc k) e d h =
-    let s = distinct_parts x xs d in
-    cond-false (same e.prefix x.prefix) (Some x.hop) (at xs e.prefix) (other_first x xs k e s.0 h) ∙ nth_at xs k e s.1 h
+nth_at [] k e d h = cc
+nth_at (x ∷ xs) zero e d h = grind (arith, common_steps, same_refl e.prefix)
+nth_at (x ∷ xs) (suc k) e d h = let s = distinct_parts x xs d in let ih = nth_at xs k e s.1 h in grind (arith, common_steps, other_first x xs k e s.0 h)
 
 apart_in : (es : Entries) (j k : ℕ) (e f : Entry) → distinct es ≡ true → j < k → slice_get es j ≡ Some e → slice_get es k ≡ Some f → same e.prefix f.prefix ≡ false
 apart_in es j k e f d l h g =
-    elim (cases_Bool (same e.prefix f.prefix)) [
-      | inl y ↦ absurd (both_ways (has f.prefix (take k es)) (none_before es k f d g) (rw (← same_eq e.prefix f.prefix y) (nth_taken es j k e l h)))
-      | inr y ↦ y
-    ]
+    false_from_ne_true (same e.prefix f.prefix) (λ y. both_ways (has f.prefix (take k es)) (none_before es k f d g) (rw (← same_eq e.prefix f.prefix y) (nth_taken es j k e l h)))
 
 -- a write at a place of a plan
 
@@ -73,7 +67,7 @@ record DropAt (es fs : Entries) (k : ℕ) (u : Writing) : Type 0 where
   is : u ≡ dropping line
 
 nth_drops : (fs : Entries) (k : ℕ) (u : Writing) → slice_get (map dropping fs) k ≡ Some u → (f : Entry) × (slice_get fs k ≡ Some f) × (u ≡ dropping f)
-nth_drops [] k u h = let z : ◌≡◌ {A = ℕ} 0 1 = cc in absurd (omega arith)
+nth_drops [] k u h = cc
 nth_drops (f ∷ fs) zero u h = (f, refl, cc)
 nth_drops (f ∷ fs) (suc k) u h = nth_drops fs k u h
 
@@ -94,23 +88,19 @@ nth_plan (e ∷ es) fs (suc k) u h =
 -- both tables at a prefix that is written
 
 changed_off : (o n : Option ℕ) (x : ℕ) → changed_of o n ≡ Some x → is_hop x o ≡ false
-changed_off o None x h = let z : ◌≡◌ {A = ℕ} 0 1 = cc in absurd (omega arith)
-changed_off o (Some y) x h =
-    elim (cases_Bool (is_hop y o)) [
-      | inl g ↦ let i = rw g at h in let z : ◌≡◌ {A = ℕ} 0 1 = cc in absurd (omega arith)
-      | inr g ↦ let i = rw g at h in let e : y ≡ x = cc in rw (← e) g
-    ]
+changed_off o None x h = cc
+changed_off o (Some y) x h = grind (arith, common_steps)
 
 record Leaves (o n : Option ℕ) : Type 0 where
   stood : is_some o ≡ true
   goes : is_some n ≡ false
 
 fresh_leaves : (o n : Option ℕ) (x : ℕ) → fresh_of n o ≡ Some x → Leaves o n
-fresh_leaves None n x h = let z : ◌≡◌ {A = ℕ} 0 1 = cc in absurd (omega arith)
+fresh_leaves None n x h = cc
 fresh_leaves (Some y) None x h = record { stood = refl; goes = refl }
-fresh_leaves (Some y) (Some w) x h = let z : ◌≡◌ {A = ℕ} 0 1 = cc in absurd (omega arith)
+fresh_leaves (Some y) (Some w) x h = cc
 
-alt_some : (x o : Option ℕ) → is_some o ≡ true → is_some (alt x o) ≡ true
+alt_some : (x o : Option ℕ) → is_some o ≡ true → is_some (option_or x o) ≡ true
 alt_some None o h = h
 alt_some (Some y) o h = refl
 
@@ -140,19 +130,15 @@ module _ (old new : Entries) (od : distinct old ≡ true) (nd : distinct new ≡
       let p = r.line.prefix in
       let j = k - length (putting old new) in
       let n = none_before (leaving old new) j r.line (distinct_leaving old new od) r.there in
-      let m = moment_at old new nd k p ∙ cond-false (has p (take j (leaving old new))) None (alt (at (take k (putting old new)) p) (at old p)) n in
+      let m = moment_at old new nd k p ∙ cond-false (has p (take j (leaving old new))) None (option_or (at (take k (putting old new)) p) (at old p)) n in
       rw r.is
       (has_at p (moment (plan old new) old k) ∙ ap is_some m ∙ alt_some (at (take k (putting old new)) p) (at old p) (left_by k u r).stood)
 
   put_and_drop : (j k : ℕ) (u v : Writing) (r : PutAt (putting old new) j u) (s : DropAt (putting old new) (leaving old new) k v) → same r.line.prefix s.line.prefix ≡ false
   put_and_drop j k u v r s =
       let p = s.line.prefix in
-      elim (cases_Bool (same r.line.prefix p)) [
-        | inl y ↦
-            let h : has p new ≡ true = rw (← same_eq r.line.prefix p y) (putting_new old new r.line.prefix od nd (nth_has (putting old new) j r.line r.there)) in
-            absurd (both_ways (has p new) (has_at p new ∙ (left_by k v s).goes) h)
-        | inr y ↦ y
-      ]
+      false_from_ne_true (same r.line.prefix p)
+      (λ y. both_ways (has p new) (has_at p new ∙ (left_by k v s).goes) (rw (← same_eq r.line.prefix p y) (putting_new old new r.line.prefix od nd (nth_has (putting old new) j r.line r.there))))
 
 pub none_idle : NoneIdle
 none_idle old new od nd k u h =

@@ -1,21 +1,17 @@
 -- What stands at a prefix, in tables that are filtered or sorted, and how many lines there are. Assumes nothing.
-use Rattle.std.proofs.Common.{◌≡◌, ℕ, zero, suc, ◌≤◌, Bool, true, false, cond, ◌||◌, eqb, List, [], ◌∷◌, ◌++◌, length, take, is_some, Some, None, filter, Option, sym, refl, ap, ◌∙◌, inl, inr, arith}
-use Rattle.std.proofs.lemmas.Bool.{cond_both, cases_Bool, or_cases, or_parts, or_from, or_left, or_right, both_ways, cond-true, cond-false}
+use Rattle.std.proofs.Common.{◌≡◌, ℕ, zero, suc, ◌≤◌, Bool, true, false, cond, ◌||◌, eqb, List, [], ◌∷◌, ◌++◌, length, take, is_some, Some, None, filter, Option, sym, refl, ap, ◌∙◌, arith}
+use Rattle.std.proofs.lemmas.Bool.{false_from_ne_true, or_left, or_right, both_ways, cond-false}
+use Rattle.std.proofs.lemmas.Grind.{common_steps}
 use Rattle.prefix.specs.Bits.{Bits, same}
 use Rattle.prefix.proofs.Strings.{same_eq, same_refl}
 use Rattle.prefix.proofs.Order.{differ_turn}
 use Rattle.table.specs.Tables.{Entry, Entries, has, distinct, pick, at, without, holds}
 use Rattle.table.specs.Laws.{SameLines}
 use Rattle.table.proofs.Picks.{has_without, at_without}
-use Rattle.table.proofs.Counts.{distinct_parts, distinct_from, distinct_insert, distinct_without}
+use Rattle.table.proofs.Counts.{count_without, distinct_parts, distinct_from, distinct_insert, distinct_without}
 use Rattle.table.proofs.Alike.{holds_has}
 use Rattle.transition.specs.Writes.{Writing, Put, Drop, written, written_all}
 use Rattle.transition.specs.Plans.{insert_by, sorted_by}
-
--- the first, or else the second
-abbrev pub alt : Option ℕ → Option ℕ → Option ℕ
-alt None o = o
-alt (Some x) o = Some x
 
 -- whether it is this next hop
 abbrev pub is_hop : ℕ → Option ℕ → Bool
@@ -27,41 +23,25 @@ is_hop x (Some y) = eqb x y
 pub has_at : (p : Bits) (t : Entries) → has p t ≡ is_some (at t p)
 unfolding has pick
 has_at p [] = refl
-has_at p (e ∷ es) =
-    elim (cases_Bool (same p e.prefix)) [
-      | inl y ↦ rw y
-      | inr y ↦ rw y (has_at p es)
-    ]
+has_at p (e ∷ es) = let ih = has_at p es in grind (arith, common_steps)
 
 none_some : (o : Option ℕ) → is_some o ≡ false → o ≡ None
 none_some None h = refl
-none_some (Some x) h = absurd (both_ways true h refl)
+none_some (Some x) h = cc
 
 pub at_none : (p : Bits) (t : Entries) → has p t ≡ false → at t p ≡ None
 at_none p t h = none_some (at t p) (sym (has_at p t) ∙ h)
 
 pub not_held : (e : Entry) (t : Entries) → has e.prefix t ≡ false → holds e t ≡ false
-not_held e t h =
-    elim (cases_Bool (holds e t)) [
-      | inl y ↦ absurd (both_ways (has e.prefix t) h (holds_has e t y))
-      | inr y ↦ y
-    ]
-
-or_false : (b : Bool) → (b || false) ≡ b
-or_false true = refl
-or_false false = refl
+not_held e t h = false_from_ne_true (holds e t) (λ y. both_ways (has e.prefix t) h (holds_has e t y))
 
 pub holds_at : (e : Entry) (t : Entries) → distinct t ≡ true → holds e t ≡ is_hop e.hop (at t e.prefix)
 unfolding holds pick
 holds_at e [] d = refl
 holds_at e (f ∷ fs) d =
     let s = distinct_parts f fs d in
-    elim (cases_Bool (same e.prefix f.prefix)) [
-      | inl y ↦
-          let n : holds e fs ≡ false = not_held e fs (rw (same_eq e.prefix f.prefix y) s.0) in
-          rw (y, n) (or_false (eqb e.hop f.hop))
-      | inr y ↦ rw y (holds_at e fs s.1)
-    ]
+    let ih = holds_at e fs s.1 in
+    grind (arith, common_steps, same_eq e.prefix f.prefix, not_held e fs)
 
 -- tables with the same at every prefix have the same lines
 pub same_lines : (t u : Entries) → distinct t ≡ true → distinct u ≡ true → ((p : Bits) → at t p ≡ at u p) → SameLines t u
@@ -83,17 +63,13 @@ distinct_all (u ∷ us) t d = distinct_all us (written u t) (distinct_written u 
 pub has_append : (p : Bits) (t u : Entries) → has p (t ++ u) ≡ (has p t || has p u)
 unfolding has
 has_append p [] u = refl
-has_append p (e ∷ es) u =
-    elim (cases_Bool (same p e.prefix)) [
-      | inl y ↦ rw y
-      | inr y ↦ rw y (has_append p es u)
-    ]
+has_append p (e ∷ es) u = let ih = has_append p es u in grind (arith, common_steps)
 
 pub has_take : (p : Bits) (k : ℕ) (t : Entries) → has p t ≡ false → has p (take k t) ≡ false
 unfolding has
 has_take p zero t h = refl
 has_take p (suc k) [] h = refl
-has_take p (suc k) (e ∷ es) h = let s = or_parts (same p e.prefix) (has p es) h in or_from _ _ s.0 (has_take p k es s.1)
+has_take p (suc k) (e ∷ es) h = let ih = has_take p k es in grind (arith, common_steps)
 
 pub distinct_take : (k : ℕ) (t : Entries) → distinct t ≡ true → distinct (take k t) ≡ true
 unfolding distinct
@@ -113,57 +89,27 @@ module _ (f : Entry → Bool) where
   pub has_kept : (p : Bits) (t : Entries) → has p t ≡ false → has p (filter f t) ≡ false
   unfolding has
   has_kept p [] h = refl
-  has_kept p (e ∷ es) h =
-      let s = or_parts (same p e.prefix) (has p es) h in
-      cond_both (f e) (e ∷ filter f es) (filter f es) (λ t. has p t ≡ false)
-      (λ _. or_from _ _ s.0 (has_kept p es s.1)) (λ _. has_kept p es s.1)
+  has_kept p (e ∷ es) h = let ih = has_kept p es in grind (arith, common_steps)
 
   pub distinct_kept : (t : Entries) → distinct t ≡ true → distinct (filter f t) ≡ true
-  distinct_kept [] d = d
-  distinct_kept (e ∷ es) d =
-      let s = distinct_parts e es d in
-      cond_both (f e) (e ∷ filter f es) (filter f es) (λ t. distinct t ≡ true)
-      (λ _. distinct_from e (filter f es) (has_kept e.prefix es s.0) (distinct_kept es s.1)) (λ _. distinct_kept es s.1)
-
-  kept_first : (p : Bits) (e : Entry) (es : Entries) → p ≡ e.prefix → has e.prefix es ≡ false →
-      at (cond (f e) (e ∷ filter f es) (filter f es)) p ≡ passed f p (Some e.hop)
-  unfolding pick
-  kept_first p e es y n =
-      let z = same_refl e.prefix in
-      let m = at_none e.prefix (filter f es) (has_kept e.prefix es n) in
-      elim (cases_Bool (f e)) [
-        | inl g ↦ rw (y, g, z)
-        | inr g ↦ rw (y, g, m)
-      ]
+  unfolding distinct
+  distinct_kept [] d = refl
+  distinct_kept (e ∷ es) d = let ih = distinct_kept es in let k = has_kept e.prefix es in grind (arith, common_steps)
 
   pub at_kept : (p : Bits) (t : Entries) → distinct t ≡ true → at (filter f t) p ≡ passed f p (at t p)
-  unfolding pick
+  unfolding pick distinct
   at_kept p [] d = refl
   at_kept p (e ∷ es) d =
-      let s = distinct_parts e es d in
-      elim (cases_Bool (same p e.prefix)) [
-        | inl y ↦ kept_first p e es (same_eq p e.prefix y) s.0 ∙ ap (passed f p) (sym (cond-true (same p e.prefix) (Some e.hop) (at es p) y))
-        | inr y ↦
-            cond_both (f e) (e ∷ filter f es) (filter f es) (λ t. at t p ≡ passed f p (at es p))
-            (λ _. rw y (at_kept p es s.1)) (λ _. at_kept p es s.1)
-            ∙ ap (passed f p) (sym (cond-false (same p e.prefix) (Some e.hop) (at es p) y))
-      ]
+      let ih = at_kept p es in
+      grind (arith, common_steps, same_eq p e.prefix, same_refl p, has_kept p es, at_none p (filter f es))
 
 -- lines in an order
 
 module _ (f : Bits → Bits → Bool) where
-  or_swap : (x y z : Bool) → (x || (y || z)) ≡ (y || (x || z))
-  or_swap true true z = refl
-  or_swap true false z = refl
-  or_swap false true z = refl
-  or_swap false false z = refl
-
   pub has_insert : (p : Bits) (e : Entry) (t : Entries) → has p (insert_by f e t) ≡ has p (e ∷ t)
   unfolding has insert_by
   has_insert p e [] = refl
-  has_insert p e (k ∷ ks) =
-      cond_both (f e.prefix k.prefix) (e ∷ k ∷ ks) (k ∷ insert_by f e ks) (λ t. has p t ≡ has p (e ∷ k ∷ ks))
-      (λ _. refl) (λ _. rw (has_insert p e ks) (or_swap (same p k.prefix) (same p e.prefix) (has p ks)))
+  has_insert p e (k ∷ ks) = let ih = has_insert p e ks in grind (arith, common_steps)
 
   pub has_sorted : (p : Bits) (t : Entries) → has p (sorted_by f t) ≡ has p t
   unfolding has sorted_by
@@ -171,15 +117,12 @@ module _ (f : Bits → Bits → Bool) where
   has_sorted p (e ∷ es) = has_insert p e (sorted_by f es) ∙ ap (λ b. same p e.prefix || b) (has_sorted p es)
 
   pub distinct_inserted : (e : Entry) (t : Entries) → has e.prefix t ≡ false → distinct t ≡ true → distinct (insert_by f e t) ≡ true
-  unfolding insert_by has
-  distinct_inserted e [] h d = distinct_from e [] refl d
+  unfolding insert_by has distinct
+  distinct_inserted e [] h d = refl
   distinct_inserted e (k ∷ ks) h d =
-      let s = distinct_parts k ks d in
-      let o = or_parts (same e.prefix k.prefix) (has e.prefix ks) h in
-      cond_both (f e.prefix k.prefix) (e ∷ k ∷ ks) (k ∷ insert_by f e ks) (λ t. distinct t ≡ true)
-      (λ _. distinct_from e (k ∷ ks) h d)
-      (λ _. distinct_from k (insert_by f e ks)
-      (has_insert k.prefix e ks ∙ or_from _ _ (differ_turn e.prefix k.prefix o.0) s.0) (distinct_inserted e ks o.1 s.1))
+      let ih = distinct_inserted e ks in
+      let i = has_insert k.prefix e ks in
+      grind (arith, common_steps, differ_turn e.prefix k.prefix)
 
   pub distinct_sorted : (t : Entries) → distinct t ≡ true → distinct (sorted_by f t) ≡ true
   unfolding sorted_by
@@ -188,21 +131,12 @@ module _ (f : Bits → Bits → Bool) where
       let s = distinct_parts e es d in
       distinct_inserted e (sorted_by f es) (has_sorted e.prefix es ∙ s.0) (distinct_sorted es s.1)
 
-  cond_swap : (u v : Bool) (x y z : Option ℕ) → (u ≡ true → v ≡ true → ⊥) → cond v y (cond u x z) ≡ cond u x (cond v y z)
-  cond_swap true true x y z k = absurd (k refl refl)
-  cond_swap true false x y z k = refl
-  cond_swap false true x y z k = refl
-  cond_swap false false x y z k = refl
-
   at_inserted : (p : Bits) (e : Entry) (t : Entries) → has e.prefix t ≡ false → at (insert_by f e t) p ≡ at (e ∷ t) p
   unfolding pick insert_by has
   at_inserted p e [] h = refl
   at_inserted p e (k ∷ ks) h =
-      let o = or_parts (same e.prefix k.prefix) (has e.prefix ks) h in
-      cond_both (f e.prefix k.prefix) (e ∷ k ∷ ks) (k ∷ insert_by f e ks) (λ t. at t p ≡ at (e ∷ k ∷ ks) p)
-      (λ _. refl)
-      (λ _. rw (at_inserted p e ks o.1) (cond_swap (same p e.prefix) (same p k.prefix) (Some e.hop) (Some k.hop) (at ks p)
-      (λ y z. both_ways (same e.prefix k.prefix) o.0 (rw (sym (same_eq p e.prefix y) ∙ same_eq p k.prefix z) (same_refl k.prefix)))))
+      let ih = at_inserted p e ks in
+      grind (arith, common_steps, same_eq p e.prefix, same_eq p k.prefix, same_refl k.prefix)
 
   pub at_sorted : (p : Bits) (t : Entries) → distinct t ≡ true → at (sorted_by f t) p ≡ at t p
   unfolding pick sorted_by
@@ -214,9 +148,7 @@ module _ (f : Bits → Bits → Bool) where
   pub length_inserted : (e : Entry) (t : Entries) → length (insert_by f e t) ≡ suc (length t)
   unfolding insert_by
   length_inserted e [] = refl
-  length_inserted e (k ∷ ks) =
-      cond_both (f e.prefix k.prefix) (e ∷ k ∷ ks) (k ∷ insert_by f e ks) (λ t. length t ≡ suc (suc (length ks)))
-      (λ _. refl) (λ _. ap suc (length_inserted e ks))
+  length_inserted e (k ∷ ks) = let ih = length_inserted e ks in grind (arith, common_steps)
 
   pub length_sorted : (t : Entries) → length (sorted_by f t) ≡ length t
   unfolding sorted_by
@@ -225,49 +157,26 @@ module _ (f : Bits → Bits → Bool) where
 
 -- counts by prefixes
 
-without_le : (p : Bits) (t : Entries) → length (without p t) ≤ length t
-unfolding without
-without_le p [] = omega arith
-without_le p (e ∷ es) =
-    let ih = without_le p es in
-    cond_both (same p e.prefix) (without p es) (e ∷ without p es) (λ t. length t ≤ suc (length es)) (λ _. omega arith) (λ _. omega arith)
-
-without_less : (p : Bits) (t : Entries) → has p t ≡ true → suc (length (without p t)) ≤ length t
-unfolding without has
-without_less p [] h = absurd (both_ways false refl h)
-without_less p (e ∷ es) h =
-    let le = without_le p es in
-    elim (or_cases (same p e.prefix) (has p es) h) [
-      | inl y ↦ rw y (omega arith)
-      | inr y ↦
-          let ih = without_less p es y in
-          cond_both (same p e.prefix) (without p es) (e ∷ without p es) (λ t. suc (length t) ≤ suc (length es)) (λ _. omega arith) (λ _. omega arith)
-    ]
-
 has_others : (p q : Bits) (t : Entries) → same p q ≡ false → has p (without q t) ≡ has p t
 has_others p q t n =
     has_at p (without q t) ∙ ap is_some (at_without q t p ∙ cond-false (same p q) None (at t p) n) ∙ sym (has_at p t)
 
 -- a table whose prefixes are all in another has no more lines
-pub covered : (t u : Entries) → distinct t ≡ true → ((p : Bits) → has p t ≡ true → has p u ≡ true) → length t ≤ length u
+pub covered : (t u : Entries) → distinct t ≡ true → distinct u ≡ true → ((p : Bits) → has p t ≡ true → has p u ≡ true) → length t ≤ length u
 unfolding has
-covered [] u d h = omega arith
-covered (e ∷ es) u d h =
+covered [] u d g h = omega arith
+covered (e ∷ es) u d g h =
     let s = distinct_parts e es d in
     let there : has e.prefix u ≡ true = h e.prefix (or_left _ _ (same_refl e.prefix)) in
-    let rest = covered es (without e.prefix u) s.1 (λ p y. has_others p e.prefix u (off p s.0 y) ∙ h p (or_right _ _ y)) in
-    omega (arith, without_less e.prefix u there)
+    let rest = covered es (without e.prefix u) s.1 (distinct_without e.prefix u g) (λ p y. has_others p e.prefix u (off p s.0 y) ∙ h p (or_right _ _ y)) in
+    omega (arith, rest, rw there at (count_without e.prefix u g))
   where
     off : (p : Bits) → has e.prefix es ≡ false → has p es ≡ true → same p e.prefix ≡ false
-    off p n y =
-        elim (cases_Bool (same p e.prefix)) [
-          | inl z ↦ absurd (both_ways (has e.prefix es) n (rw (← same_eq p e.prefix z) y))
-          | inr z ↦ z
-        ]
+    off p n y = false_from_ne_true (same p e.prefix) (λ z. both_ways (has e.prefix es) n (rw (← same_eq p e.prefix z) y))
 
 -- tables with the same prefixes have as many lines
 pub as_many : (t u : Entries) → distinct t ≡ true → distinct u ≡ true → ((p : Bits) → has p t ≡ has p u) → length t ≡ length u
 as_many t u d e h =
-    let a = covered t u d (λ p y. sym (h p) ∙ y) in
-    let b = covered u t e (λ p y. h p ∙ y) in
+    let a = covered t u d e (λ p y. sym (h p) ∙ y) in
+    let b = covered u t e d (λ p y. h p ∙ y) in
     omega arith

@@ -1,15 +1,18 @@
 -- Every moment of a plan, as one address sees it. Assumes nothing.
-use Rattle.std.proofs.Common.{◌≡◌, ℕ, zero, suc, ◌+◌, ◌-◌, ◌<◌, ◌≤◌, Bool, true, false, cond, not, ◌||◌, ◌⊎◌, [], ◌∷◌, length, take, drop, Some, None, Option, sym, refl, ap, ◌∙◌, ap₂, inl, inr, arith}
+use Rattle.std.proofs.Common.{◌≡◌, ℕ, zero, suc, ◌+◌, ◌-◌, ◌<◌, ◌≤◌, Bool, true, false, cond, not, ◌⊎◌, [], ◌∷◌, length, take, drop, None, Option, sym, refl, ap, ◌∙◌, ap₂, inl, inr, arith}
 use Rattle.std.proofs.lemmas.List.{take_all, drop_all, take-take, take-append-drop, drop-drop}
+use Rattle.std.proofs.Math.Bool.{or-false}
 use Rattle.std.proofs.lemmas.Bool.{cases_lt, cond-false, and_parts}
-use Rattle.prefix.specs.Bits.{Bits, same}
+use Rattle.std.proofs.lemmas.Grind.{common_steps}
+use Rattle.prefix.specs.Bits.{Bits}
 use Rattle.table.specs.Tables.{Entries, find, hop_of, has, holds, distinct, fits, sound, pick, at, seen, top}
 use Rattle.table.proofs.Picks.{seen_at}
 use Rattle.table.proofs.Tops.{topmost}
 use Rattle.transition.specs.Writes.{moment}
 use Rattle.transition.specs.Plans.{changed, fresh, plan}
 use Rattle.transition.specs.Laws.{NoWrongMoment, OnceNew, LookUpsOnce}
-use Rattle.transition.proofs.Lines.{alt, at_none, has_append, distinct_kept}
+use Rattle.std.specs.Option.{option_or}
+use Rattle.transition.proofs.Lines.{at_none, has_append, distinct_kept}
 use Rattle.transition.proofs.Overlays.{putting, leaving, moment_at, overlay, ended}
 use Rattle.transition.proofs.Stages.{Stage, top_upto, between}
 use Rattle.transition.proofs.Reach.{reach, reach_take, reach_drop, past_reach, within_reach, Farther, pairs_split, all_turned}
@@ -26,15 +29,11 @@ at_parts : (p : Bits) (k : ℕ) (t : Entries) → has p (drop k t) ≡ false →
 unfolding pick
 at_parts p zero t h = at_none p t h
 at_parts p (suc k) [] h = refl
-at_parts p (suc k) (e ∷ es) h = ap (λ (o : Option ℕ). cond (same p e.prefix) (Some e.hop) o) (at_parts p k es h)
-
-or_off : (x y : Bool) → y ≡ false → (x || y) ≡ x
-or_off true y h = refl
-or_off false y h = h
+at_parts p (suc k) (e ∷ es) h = let ih = at_parts p k es h in grind (arith, common_steps)
 
 has_parts : (p : Bits) (k : ℕ) (t : Entries) → has p (drop k t) ≡ false → has p t ≡ has p (take k t)
 has_parts p k t h =
-    ap (has p) (sym (take-append-drop k t)) ∙ has_append p (take k t) (drop k t) ∙ or_off (has p (take k t)) (has p (drop k t)) h
+    ap (has p) (sym (take-append-drop k t)) ∙ has_append p (take k t) (drop k t) ∙ rw h (or-false (has p (take k t)))
 
 module _ (old new : Entries) (od : distinct old ≡ true) (nd : distinct new ≡ true) (a : Bits) where
   -- puts that are still to come reach so far, and drops that are done
@@ -85,15 +84,15 @@ module _ (old new : Entries) (od : distinct old ≡ true) (nd : distinct new ≡
         let f = pairs_split (λ e f. Farther e.prefix f.prefix) j (leaving old new) (shortest_pairs (fresh new old) fresh_distinct) in
         let y = within_reach a n (take j (leaving old new)) (drop j (leaving old new)) l f h in
         moment_at old new nd k (take n a)
-        ∙ ap₂ (λ (b : Bool) (es : Entries). cond b None (alt (at es (take n a)) (at old (take n a)))) (sym (has_parts (take n a) j (leaving old new) y)) (take_all k (putting old new) z)
+        ∙ ap₂ (λ (b : Bool) (es : Entries). cond b None (option_or (at es (take n a)) (at old (take n a)))) (sym (has_parts (take n a) j (leaving old new) y)) (take_all k (putting old new) z)
         ∙ ended old new (take n a) od nd;
     both = λ n l h g.
         let j = k - length (putting old new) in
         let y = past_reach a n (take j (leaving old new)) l g in
         let z = past_reach a n (drop k (putting old new)) l h in
         moment_at old new nd k (take n a)
-        ∙ cond-false (has (take n a) (take j (leaving old new))) None (alt (at (take k (putting old new)) (take n a)) (at old (take n a))) y
-        ∙ ap (λ (o : Option ℕ). alt o (at old (take n a))) (sym (at_parts (take n a) k (putting old new) z))
+        ∙ cond-false (has (take n a) (take j (leaving old new))) None (option_or (at (take k (putting old new)) (take n a)) (at old (take n a))) y
+        ∙ ap (λ (o : Option ℕ). option_or o (at old (take n a))) (sym (at_parts (take n a) k (putting old new) z))
         ∙ overlay old new (take n a) od nd;
   }
 

@@ -1,6 +1,8 @@
 -- The orders of writes, by length and then by bits, are strict and total. Assumes nothing.
-use Rattle.std.proofs.Common.{◌≡◌, ℕ, Bool, true, false, ◌&&◌, eqb, ltb, ◌⊎◌, length, sym, ◌∙◌, inl, inr}
-use Rattle.std.proofs.lemmas.Bool.{cases_Bool, cases_eq, or_cases, or_parts, or_from, or_left, or_right, and_parts, and_from, and_cases, and_left, and_right, both_ways, eqb-true, eq-eqb, ne_eqb, ltb-true}
+use Rattle.std.proofs.Common.{arith, ◌≡◌, ℕ, Bool, true, false, ◌&&◌, eqb, ltb, ◌⊎◌, length, sym, inl, inr}
+use Rattle.std.proofs.lemmas.Bool.{or_cases, or_from, or_left, or_right, and_parts, and_from, and_right, both_ways, eqb-true, eq-eqb, ltb-true}
+use Rattle.std.proofs.lemmas.Grind.{common_steps}
+use Rattle.std.proofs.lemmas.Bool.Decides.{nat_tests}
 use Rattle.prefix.specs.Bits.{Bits, same, before}
 use Rattle.prefix.proofs.Order.{before_irrefl, before_trans, before_other}
 use Rattle.table.specs.Tables.{Entries, distinct}
@@ -26,45 +28,16 @@ module _ (first : ℕ → ℕ → Bool) (strict : Strict first) where
   -- of two lengths that differ, the order goes by them
   pub not_first : (p q : Bits) → first (length q) (length p) ≡ true → by_length first p q ≡ false
   not_first p q h =
-      or_from _ _ off (and_left _ _ (ne_eqb (length p) (length q) (λ e. both_ways (first (length p) (length p)) (strict.irrefl (length p)) (rw (← e) at h))))
-    where
-      off : first (length p) (length q) ≡ false
-      off =
-          elim (cases_Bool (first (length p) (length q))) [
-            | inl y ↦ absurd (both_ways (first (length p) (length p)) (strict.irrefl (length p)) (strict.trans (length p) (length q) (length p) y h))
-            | inr y ↦ y
-          ]
+      grind (arith, nat_tests, strict.irrefl (length p), strict.trans (length p) (length q) (length p))
 
   pub order_irrefl : (p : Bits) → by_length first p p ≡ false
   order_irrefl p = or_from _ _ (strict.irrefl (length p)) (and_right (eqb (length p) (length p)) (before p p) (before_irrefl p))
 
   pub order_other : (p q : Bits) → by_length first p q ≡ false → same p q ≡ false → by_length first q p ≡ true
-  order_other p q h n =
-      let s = or_parts (first (length p) (length q)) (eqb (length p) (length q) && before p q) h in
-      elim (cases_eq (length p) (length q)) [
-        | inl e ↦ by_bits q p (sym e) (before_other p q (low e s.1) n)
-        | inr e ↦ by_first q p (strict.total (length p) (length q) s.0 e)
-      ]
-    where
-      low : length p ≡ length q → (eqb (length p) (length q) && before p q) ≡ false → before p q ≡ false
-      low e h =
-          elim (and_cases (eqb (length p) (length q)) (before p q) h) [
-            | inl y ↦ absurd (both_ways (eqb (length p) (length q)) y (eq-eqb (length p) (length q) e))
-            | inr y ↦ y
-          ]
+  order_other p q h n = grind (arith, nat_tests, common_steps, before_other p q, strict.total (length p) (length q))
 
   pub order_trans : (p q r : Bits) → by_length first p q ≡ true → by_length first q r ≡ true → by_length first p r ≡ true
-  order_trans p q r h k =
-      elim (ways p q h) [
-        | inl x ↦ elim (ways q r k) [
-          | inl y ↦ by_first p r (strict.trans (length p) (length q) (length r) x y)
-          | inr y ↦ by_first p r (rw (← y.0) x)
-        ]
-        | inr x ↦ elim (ways q r k) [
-          | inl y ↦ by_first p r (rw x.0 y)
-          | inr y ↦ by_bits p r (x.0 ∙ y.0) (before_trans p q r x.1 y.1)
-        ]
-      ]
+  order_trans p q r h k = grind (arith, nat_tests, common_steps, strict.trans (length p) (length q) (length r), before_trans p q r)
 
   pub order_sorted : (t : Entries) → distinct t ≡ true → Pairs (λ e f. by_length first e.prefix f.prefix ≡ true) (sorted_by (by_length first) t)
   order_sorted t d = sorted_pairs (by_length first) order_other order_trans t d

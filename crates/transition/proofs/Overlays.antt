@@ -1,15 +1,17 @@
 -- What stands at a prefix after some of a plan's writes. Assumes nothing.
-use Rattle.std.proofs.Common.{◌≡◌, ℕ, zero, suc, ◌-◌, Bool, true, false, cond, not, ◌||◌, eqb, List, [], ◌∷◌, ◌++◌, map, length, take, is_some, Some, None, Option, sym, refl, ap, ◌∙◌, ap₂, inl, inr, arith}
+use Rattle.std.proofs.Common.{◌≡◌, ℕ, zero, suc, ◌-◌, Bool, true, cond, not, List, [], ◌∷◌, ◌++◌, map, length, take, is_some, Some, None, Option, refl, ap, ◌∙◌, ap₂, arith}
 use Rattle.std.proofs.lemmas.List.{take-map, length-map}
-use Rattle.std.proofs.lemmas.Bool.{cases_Bool, cond-true, cond-false, eqb-true}
-use Rattle.prefix.specs.Bits.{Bits, same}
+use Rattle.std.proofs.lemmas.Grind.{common_steps}
+use Rattle.std.proofs.lemmas.Bool.Decides.{nat_tests}
+use Rattle.prefix.specs.Bits.{Bits}
 use Rattle.prefix.proofs.Strings.{same_eq}
 use Rattle.table.specs.Tables.{Entries, has, distinct, pick, at, holds, put}
 use Rattle.table.proofs.Picks.{at_put, at_without}
 use Rattle.table.proofs.Counts.{distinct_parts}
 use Rattle.transition.specs.Writes.{Writing, Put, written, written_all, moment}
 use Rattle.transition.specs.Plans.{changed, fresh, longest_first, shortest_first, sorted_by, dropping, plan}
-use Rattle.transition.proofs.Lines.{alt, is_hop, passed, has_at, at_none, holds_at, distinct_take, distinct_kept, at_kept, at_sorted, distinct_sorted}
+use Rattle.std.specs.Option.{option_or}
+use Rattle.transition.proofs.Lines.{is_hop, passed, has_at, at_none, holds_at, distinct_take, distinct_kept, at_kept, at_sorted, distinct_sorted}
 
 -- some writes and then others
 pub written_append : (us vs : List Writing) (t : Entries) → written_all (us ++ vs) t ≡ written_all vs (written_all us t)
@@ -18,31 +20,20 @@ written_append [] vs t = refl
 written_append (u ∷ us) vs t = written_append us vs (written u t)
 
 -- lines that are put stand over what was there
-pub puts_at : (p : Bits) (es t : Entries) → distinct es ≡ true → at (written_all (map Put es) t) p ≡ alt (at es p) (at t p)
+pub puts_at : (p : Bits) (es t : Entries) → distinct es ≡ true → at (written_all (map Put es) t) p ≡ option_or (at es p) (at t p)
 unfolding written_all pick
 puts_at p [] t d = refl
 puts_at p (e ∷ es) t d =
     let s = distinct_parts e es d in
     let ih = puts_at p es (put e t) s.1 in
-    ih ∙ elim (cases_Bool (same p e.prefix)) [
-      | inl y ↦
-          let n : at es p ≡ None = at_none p es (rw (same_eq p e.prefix y) s.0) in
-          ap₂ alt n (at_put e t p ∙ cond-true (same p e.prefix) (Some e.hop) (at t p) y) ∙ rw y
-      | inr y ↦ ap (alt (at es p)) (at_put e t p ∙ cond-false (same p e.prefix) (Some e.hop) (at t p) y) ∙ rw y
-    ]
-
-gone_twice : (u v : Bool) (o : Option ℕ) → cond v None (cond u None o) ≡ cond (u || v) None o
-gone_twice true true o = refl
-gone_twice true false o = refl
-gone_twice false true o = refl
-gone_twice false false o = refl
+    grind (arith, common_steps, same_eq p e.prefix, at_none p es, at_put e t p)
 
 -- lines that are dropped are gone, and the others as they were
 pub drops_at : (p : Bits) (fs t : Entries) → at (written_all (map dropping fs) t) p ≡ cond (has p fs) None (at t p)
 unfolding written_all has
 drops_at p [] t = refl
 drops_at p (f ∷ fs) t =
-    drops_at p fs (written (dropping f) t) ∙ ap (λ (o : Option ℕ). cond (has p fs) None o) (at_without f.prefix t p) ∙ gone_twice (same p f.prefix) (has p fs) (at t p)
+    let ih = drops_at p fs (written (dropping f) t) in grind (arith, common_steps, at_without f.prefix t p)
 
 module _ {X : Type 0} where
   pub take_append : (k : ℕ) (xs ys : List X) → take k (xs ++ ys) ≡ take k xs ++ take (k - length xs) ys
@@ -74,7 +65,7 @@ take_plan old new k =
     (ap (λ n. take (k - n) (map dropping (leaving old new))) (length-map (putting old new) Put) ∙ take-map dropping (k - length (putting old new)) (leaving old new))
 
 pub moment_at : (old new : Entries) → distinct new ≡ true → (k : ℕ) (p : Bits) →
-    at (moment (plan old new) old k) p ≡ cond (has p (take (k - length (putting old new)) (leaving old new))) None (alt (at (take k (putting old new)) p) (at old p))
+    at (moment (plan old new) old k) p ≡ cond (has p (take (k - length (putting old new)) (leaving old new))) None (option_or (at (take k (putting old new)) p) (at old p))
 moment_at old new d k p =
     let es = take k (putting old new) in
     let fs = take (k - length (putting old new)) (leaving old new) in
@@ -114,19 +105,15 @@ pub leaving_at : (old new : Entries) (p : Bits) → distinct old ≡ true → at
 leaving_at old new p d = at_sorted shortest_first p (fresh new old) (distinct_kept (λ l. not (has l.prefix new)) old d) ∙ fresh_at new old p d
 
 -- what was there already is as good as put
-overlay_is : (o n : Option ℕ) → alt (changed_of o n) o ≡ alt n o
+overlay_is : (o n : Option ℕ) → option_or (changed_of o n) o ≡ option_or n o
 overlay_is o None = refl
 overlay_is None (Some x) = refl
-overlay_is (Some y) (Some x) =
-    elim (cases_Bool (eqb x y)) [
-      | inl h ↦ rw h (ap Some (sym (eqb-true x y h)))
-      | inr h ↦ rw h
-    ]
+overlay_is (Some y) (Some x) = grind (arith, common_steps, nat_tests)
 
-pub overlay : (old new : Entries) (p : Bits) → distinct old ≡ true → distinct new ≡ true → alt (at (putting old new) p) (at old p) ≡ alt (at new p) (at old p)
-overlay old new p d e = ap (λ (x : Option ℕ). alt x (at old p)) (putting_at old new p d e) ∙ overlay_is (at old p) (at new p)
+pub overlay : (old new : Entries) (p : Bits) → distinct old ≡ true → distinct new ≡ true → option_or (at (putting old new) p) (at old p) ≡ option_or (at new p) (at old p)
+overlay old new p d e = ap (λ (x : Option ℕ). option_or x (at old p)) (putting_at old new p d e) ∙ overlay_is (at old p) (at new p)
 
-end_is : (o n : Option ℕ) → cond (is_some (fresh_of n o)) None (alt n o) ≡ n
+end_is : (o n : Option ℕ) → cond (is_some (fresh_of n o)) None (option_or n o) ≡ n
 end_is None None = refl
 end_is None (Some x) = refl
 end_is (Some y) None = refl
@@ -134,6 +121,6 @@ end_is (Some y) (Some x) = refl
 
 -- when all is dropped that has to be, the new table stands
 pub ended : (old new : Entries) (p : Bits) → distinct old ≡ true → distinct new ≡ true →
-    cond (has p (leaving old new)) None (alt (at (putting old new) p) (at old p)) ≡ at new p
+    cond (has p (leaving old new)) None (option_or (at (putting old new) p) (at old p)) ≡ at new p
 ended old new p d e =
     ap₂ (λ (b : Bool) (o : Option ℕ). cond b None o) (has_at p (leaving old new) ∙ ap is_some (leaving_at old new p d)) (overlay old new p d e) ∙ end_is (at old p) (at new p)

@@ -1,8 +1,9 @@
 -- An address notices only writes of prefixes that it begins with. Assumes nothing.
-use Rattle.std.proofs.Common.{◌≡◌, ℕ, false, cond, List, [], ◌∷◌, length, take, drop, Some, None, filter, Option, sym, refl, ap, ◌∙◌, inl, inr, arith}
+use Rattle.std.proofs.Common.{◌≡◌, ℕ, false, cond, List, [], ◌∷◌, length, take, drop, Some, None, filter, Option, sym, refl, ap, ◌∙◌, arith}
 use Rattle.std.proofs.lemmas.List.Elements.{filter-append}
 use Rattle.std.proofs.lemmas.List.{take-append-drop, length-append, nil_from_length}
-use Rattle.std.proofs.lemmas.Bool.{cases_Bool, cond-false, both_ways}
+use Rattle.std.proofs.lemmas.Bool.{false_from_ne_true, cond-false, both_ways}
+use Rattle.std.proofs.lemmas.Grind.{common_steps}
 use Rattle.prefix.specs.Bits.{Bits, begins, same}
 use Rattle.prefix.proofs.Strings.{same_eq}
 use Rattle.prefix.proofs.Order.{begins_first}
@@ -24,11 +25,7 @@ other_written (Put e) t p h = at_put e t p ∙ cond-false (same p e.prefix) (Som
 other_written (Drop q) t p h = at_without q t p ∙ cond-false (same p q) None (at t p) h
 
 not_begun : (a : Bits) (n : ℕ) (q : Bits) → begins q a ≡ false → same (take n a) q ≡ false
-not_begun a n q h =
-    elim (cases_Bool (same (take n a) q)) [
-      | inl y ↦ absurd (both_ways (begins q a) h (rw (← same_eq (take n a) q y) (begins_first n a)))
-      | inr y ↦ y
-    ]
+not_begun a n q h = false_from_ne_true (same (take n a) q) (λ y. both_ways (begins q a) h (rw (← same_eq (take n a) q y) (begins_first n a)))
 
 module _ (a : Bits) where
   abbrev own : List Writing → List Writing
@@ -38,10 +35,9 @@ module _ (a : Bits) where
   unfolding written_all
   own_at n [] t s h = h
   own_at n (u ∷ us) t s h =
-      elim (cases_Bool (begins (target u) a)) [
-        | inl y ↦ rw y (own_at n us (written u t) (written u s) (same_written u t s (take n a) h))
-        | inr y ↦ rw y (own_at n us (written u t) s (other_written u t (take n a) (not_begun a n (target u) y) ∙ h))
-      ]
+      let own_step = own_at n us (written u t) (written u s) in
+      let other_step = own_at n us (written u t) s in
+      grind (arith, common_steps, same_written u t s (take n a), other_written u t (take n a), not_begun a n (target u))
 
   none_own : (us : List Writing) (k : ℕ) → own us ≡ [] → own (take k us) ≡ []
   none_own us k h =

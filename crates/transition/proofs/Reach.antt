@@ -1,9 +1,10 @@
 -- How far the lines reach with which an address begins, in lists where the longest or the shortest come first. Assumes nothing.
-use Rattle.std.proofs.Common.{◌≡◌, ℕ, zero, suc, ◌<◌, ◌≤◌, max, Bool, true, false, cond, ◌⊎◌, [], ◌∷◌, ◌++◌, length, take, drop, sym, refl, ap, ◌∙◌, inl, inr, arith}
+use Rattle.std.proofs.Common.{◌≡◌, ℕ, zero, suc, ◌<◌, ◌≤◌, max, Bool, true, false, cond, ◌⊎◌, [], ◌∷◌, ◌++◌, length, take, drop, refl, ap, ◌∙◌, arith}
 use Rattle.std.specs.List.{AllByRecursion}
 use Rattle.std.proofs.ByRecursion.{All-weaker, All-drop}
 use Rattle.std.proofs.lemmas.List.{length-take-le, take-append-drop}
-use Rattle.std.proofs.lemmas.Bool.{cond_both, cases_Bool, cases_lt, or_from, or_parts}
+use Rattle.std.proofs.lemmas.Bool.{cond_both, or_from, or_parts}
+use Rattle.std.proofs.lemmas.Grind.{common_steps}
 use Rattle.prefix.specs.Bits.{Bits, begins, same}
 use Rattle.prefix.proofs.Strings.{same_eq}
 use Rattle.prefix.proofs.Order.{begins_is, begins_first}
@@ -20,12 +21,7 @@ reach a (e ∷ es) = cond (begins e.prefix a) (max (suc (length e.prefix)) (reac
 reach_append : (a : Bits) (es fs : Entries) → reach a (es ++ fs) ≡ max (reach a es) (reach a fs)
 unfolding reach
 reach_append a [] fs = omega arith
-reach_append a (e ∷ es) fs =
-    let ih = reach_append a es fs in
-    elim (cases_Bool (begins e.prefix a)) [
-      | inl y ↦ rw y (omega arith)
-      | inr y ↦ rw y ih
-    ]
+reach_append a (e ∷ es) fs = let ih = reach_append a es fs in grind (arith, common_steps)
 
 -- parts of a list reach no farther than all of it
 pub reach_take : (a : Bits) (k : ℕ) (es : Entries) → reach a (take k es) ≤ reach a es
@@ -39,38 +35,15 @@ pub past_reach : (a : Bits) (n : ℕ) (es : Entries) → n ≤ length a → reac
 unfolding reach has
 past_reach a n [] l h = refl
 past_reach a n (e ∷ es) l h =
-    elim (cases_Bool (same (take n a) e.prefix)) [
-      | inl y ↦
-          let z = same_eq (take n a) e.prefix y in
-          let b : begins e.prefix a ≡ true = rw (← z) (begins_first n a) in
-          let m : length e.prefix ≡ n = sym (ap length z) ∙ length-take-le n a l in
-          let k = rw b at h in
-          absurd (omega arith)
-      | inr y ↦ or_from _ _ y (past_reach a n es l (less (cases_Bool (begins e.prefix a))))
-    ]
-  where
-    less : (begins e.prefix a ≡ true) ⊎ (begins e.prefix a ≡ false) → reach a es ≤ n
-    less (inl b) = let k = rw b at h in omega arith
-    less (inr b) = let k = rw b at h in omega arith
+    let ih = past_reach a n es l in
+    grind (arith, common_steps, same_eq (take n a) e.prefix, begins_first n a, length-take-le n a l)
 
 -- x is another prefix than z, and not shorter
 abbrev pub Farther : Bits → Bits → Type 0
 Farther z x = (length z < length x) ⊎ ((length z ≡ length x) × (z ≡ x → ⊥))
 
 farther_apart : (a z x : Bits) (n : ℕ) → n ≤ length a → begins z a ≡ true → n ≤ length z → Farther z x → same (take n a) x ≡ false
-farther_apart a z x n l b h f =
-    elim (cases_Bool (same (take n a) x)) [
-      | inl y ↦
-          let e = same_eq (take n a) x y in
-          let m : length x ≡ n = sym (ap length e) ∙ length-take-le n a l in
-          absurd (elim f [
-            | inl k ↦ omega arith
-            | inr k ↦
-                let q : length z ≡ n = k.0 ∙ m in
-                k.1 ((begins_is z a b).1 ∙ ap (λ j. take j a) q ∙ e)
-          ])
-      | inr y ↦ y
-    ]
+farther_apart a z x n l b h f = grind (arith, common_steps, same_eq (take n a) x, length-take-le n a l, begins_is z a b)
 
 free_of : (a z : Bits) (n : ℕ) (xs : Entries) → n ≤ length a → begins z a ≡ true → n ≤ length z → AllByRecursion (λ x. Farther z x.prefix) xs → has (take n a) xs ≡ false
 unfolding has
@@ -82,13 +55,9 @@ pub within_reach : (a : Bits) (n : ℕ) (zs xs : Entries) → n ≤ length a →
 unfolding reach
 within_reach a n [] xs l f h = absurd (omega arith)
 within_reach a n (z ∷ zs) xs l f h =
-    elim (cases_Bool (begins z.prefix a)) [
-      | inl b ↦ elim (cases_lt n (suc (length z.prefix))) [
-        | inl k ↦ free_of a z.prefix n xs l b (omega arith) f.0
-        | inr k ↦ within_reach a n zs xs l f.1 (let i = rw b at h in omega arith)
-      ]
-      | inr b ↦ within_reach a n zs xs l f.1 (let i = rw b at h in omega arith)
-    ]
+    let ih = within_reach a n zs xs l f.1 in
+    let free = λ (b : begins z.prefix a ≡ true) (k : n ≤ length z.prefix). free_of a z.prefix n xs l b k f.0 in
+    grind (arith, common_steps)
 
 -- of every two lines, the earlier first
 unfoldable pub Pairs : (Entry → Entry → Type 0) → Entries → Type 0

@@ -3,7 +3,7 @@ use Rattle.std.proofs.Common.{◌≡◌, ℕ, zero, suc, ◌<◌, ◌≤◌, ◌
 use Rattle.std.proofs.lemmas.Bool.{cases_lt}
 use Rattle.table.specs.declared.lookups.Match.{Match}
 use Rattle.table.specs.Tables.{over, top}
-use Rattle.transition.proofs.Lines.{alt}
+use Rattle.std.specs.Option.{option_or}
 
 pub top_upto : (f g : ℕ → Option ℕ) (v : ℕ) → ((n : ℕ) → n ≤ v → f n ≡ g n) → top f v ≡ top g v
 unfolding top
@@ -15,10 +15,10 @@ top_upto f g (suc v) h = rw (h (suc v) (omega arith), top_upto f g v (λ n l. h 
 pub record Stage (w : ℕ) (old new : ℕ → Option ℕ) (c d : ℕ) (now : ℕ → Option ℕ) : Type 0 where
   pub before : (n : ℕ) → n ≤ w → n < c → now n ≡ old n
   pub after : (n : ℕ) → n ≤ w → n < d → now n ≡ new n
-  pub both : (n : ℕ) → n ≤ w → c ≤ n → d ≤ n → now n ≡ alt (new n) (old n)
+  pub both : (n : ℕ) → n ≤ w → c ≤ n → d ≤ n → now n ≡ option_or (new n) (old n)
 
 -- one length more at which both stand
-join : (n : ℕ) (v u : Option ℕ) (s t o m : Option Match) → (s ≡ o) ⊎ (t ≡ m) → (over n (alt v u) s ≡ over n u o) ⊎ (over n (alt v u) t ≡ over n v m)
+join : (n : ℕ) (v u : Option ℕ) (s t o m : Option Match) → (s ≡ o) ⊎ (t ≡ m) → (over n (option_or v u) s ≡ over n u o) ⊎ (over n (option_or v u) t ≡ over n v m)
 join n None None s t o m h = h
 join n None (Some y) s t o m h = inl refl
 join n (Some x) u s t o m h = inr refl

@@ -1,7 +1,9 @@
 -- The plan is as the rules say, and it is the only list of writes that is. Assumes nothing.
-use Rattle.std.proofs.Common.{◌≡◌, ℕ, Bool, true, false, not, ◌&&◌, ◌||◌, eqb, ltb, List, [], ◌∷◌, ◌++◌, map, is_some, Some, None, Option, sym, refl, ap, ◌∙◌, ap₂, inl, inr}
+use Rattle.std.proofs.Common.{arith, ◌≡◌, ℕ, Bool, true, false, not, ◌&&◌, ◌||◌, eqb, ltb, List, [], ◌∷◌, ◌++◌, map, is_some, Some, None, Option, sym, refl, ap, ◌∙◌, ap₂}
 use Rattle.std.specs.List.{AllByRecursion}
-use Rattle.std.proofs.lemmas.Bool.{cases_Bool, both_ways, and_from, eqb-true}
+use Rattle.std.proofs.lemmas.Bool.{and_from}
+use Rattle.std.proofs.lemmas.Grind.{common_steps}
+use Rattle.std.proofs.lemmas.Bool.Decides.{nat_tests}
 use Rattle.prefix.specs.Bits.{Bits, same}
 use Rattle.prefix.proofs.Strings.{same_eq, same_refl}
 use Rattle.table.specs.Tables.{Entry, Entries, has, holds, distinct, at}
@@ -38,27 +40,10 @@ unfolding among
 among_past p [] fs = among_dropped p fs
 among_past p (x ∷ xs) fs = among_past p xs fs
 
-is_hop_eq : (x y : ℕ) (o : Option ℕ) → is_hop y o ≡ false → eqb x y ≡ (eqb x y && not (is_hop x o))
-is_hop_eq x y o h =
-    elim (cases_Bool (eqb x y)) [
-      | inl k ↦ let e = eqb-true x y k in let g : is_hop x o ≡ false = rw e h in rw (k, g)
-      | inr k ↦ rw k
-    ]
-
-is_hop_off : (x y : ℕ) (o : Option ℕ) → is_hop y o ≡ true → false ≡ (eqb x y && not (is_hop x o))
-is_hop_off x y o h =
-    elim (cases_Bool (eqb x y)) [
-      | inl k ↦ let e = eqb-true x y k in let g : is_hop x o ≡ true = rw e h in rw (k, g)
-      | inr k ↦ rw k
-    ]
-
 changed_is : (o n : Option ℕ) (x : ℕ) → is_hop x (changed_of o n) ≡ (is_hop x n && not (is_hop x o))
 changed_is o None x = refl
-changed_is o (Some y) x =
-    elim (cases_Bool (is_hop y o)) [
-      | inl k ↦ rw k (is_hop_off x y o k)
-      | inr k ↦ rw k (is_hop_eq x y o k)
-    ]
+changed_is None (Some y) x = grind (arith, common_steps, nat_tests)
+changed_is (Some z) (Some y) x = grind (arith, common_steps, nat_tests)
 
 fresh_is : (o n : Option ℕ) → is_some (fresh_of n o) ≡ (is_some o && not (is_some n))
 fresh_is None n = refl
@@ -116,8 +101,8 @@ plan_prescribed old new od nd = record {
 
 same_writing_lem : (u v : Writing) → same_writing u v ≡ true → u ≡ v
 same_writing_lem (Put e) (Put f) h = ap Put (is_eq e f h)
-same_writing_lem (Put e) (Drop q) h = absurd (both_ways false refl h)
-same_writing_lem (Drop p) (Put f) h = absurd (both_ways false refl h)
+same_writing_lem (Put e) (Drop q) h = cc
+same_writing_lem (Drop p) (Put f) h = cc
 same_writing_lem (Drop p) (Drop q) h = ap Drop (same_eq p q h)
 
 writing_refl : (u : Writing) → same_writing u u ≡ true
@@ -131,8 +116,8 @@ earlier_irrefl (Drop p) = order_irrefl ltb shorter_strict p
 earlier_trans : (u v w : Writing) → earlier u v ≡ true → earlier v w ≡ true → earlier u w ≡ true
 earlier_trans (Put e) (Put f) (Put g) h k = order_trans is_longer longer_strict e.prefix f.prefix g.prefix h k
 earlier_trans (Put e) v (Drop r) h k = refl
-earlier_trans (Put e) (Drop q) (Put g) h k = absurd (both_ways false refl k)
-earlier_trans (Drop p) (Put f) w h k = absurd (both_ways false refl h)
+earlier_trans (Put e) (Drop q) (Put g) h k = cc
+earlier_trans (Drop p) (Put f) w h k = cc
 earlier_trans (Drop p) (Drop q) (Put g) h k = k
 earlier_trans (Drop p) (Drop q) (Drop r) h k = order_trans ltb shorter_strict p q r h k
 

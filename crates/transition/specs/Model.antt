@@ -1,6 +1,8 @@
 -- What the code's writes and refusals mean. Assumes nothing.
-use Rattle.std.specs.Prelude.{ℕ, if◌then◌else◌, List, map, length, Some, None, Option, nat_lt, codes}
+use Rattle.std.specs.Prelude.{ℕ, if◌then◌else◌, List, ◌++◌, map, length, Some, None, Option, nat_lt, codes}
+use Rattle.std.specs.Fmt.{decimal}
 use Rattle.prefix.specs.Model.{bits}
+use Rattle.prefix.specs.Text.{cidr_text}
 use Rattle.table.specs.Routes.{entry_of}
 use Rattle.table.specs.Tables.{Entries}
 use Rattle.transition.specs.declared.write.Write.{Write}
@@ -19,6 +21,11 @@ writing_of (DropPrefix p) = Drop (bits p)
 abbrev pub writings_of : List Write → List Writing
 writings_of ws = map writing_of ws
 
+-- how a write is printed, as `put 10.0.0.0/8 3` or `drop 10.0.0.0/8`
+abbrev pub write_text : Write → List ℕ
+write_text (PutRoute r) = codes "put " ++ cidr_text r.prefix ++ codes " " ++ decimal r.next_hop
+write_text (DropPrefix p) = codes "drop " ++ cidr_text p
+
 -- the number by which each refusal is known outside: 7 for too many lines while going over; a slice that is too short is a matter between the
 -- caller and the call alone, and has none, which is 0
 abbrev pub number_of : Refusal → ℕ
@@ -26,9 +33,9 @@ number_of TooManyLines = 7
 number_of SliceTooShort = 0
 
 -- what a refusal says in words
-abbrev pub words_of : Refusal → List ℕ
-words_of TooManyLines = codes "going over takes more lines than the device holds"
-words_of SliceTooShort = codes "the slice has fewer places than the plan has writes"
+abbrev pub refusal_text : Refusal → List ℕ
+refusal_text TooManyLines = codes "going over takes more lines than the device holds"
+refusal_text SliceTooShort = codes "the slice has fewer places than the plan has writes"
 
 -- the number by which going over from old to new is refused, if it is
 abbrev pub refusal : Entries → Entries → Option ℕ

@@ -54,6 +54,7 @@ impl Transition<'_> {
 
     // How many puts and drops it takes. Refused where the old lines, and the new ones whose prefixes the old table does not have,
     // are more than a device holds: they are counted and compared before anything is written.
+    #[tactic(auto, using(crate::proofs::Held::as_many_together, crate::proofs::Held::few_changed))]
     pub(crate) fn measure(self) -> Result<Extent, Refusal>
         ensures refused { option_map number_of (result_err result) ≡ refusal (entries self.entry.old.now) (entries self.entry.new.now) }
         ensures puts { IfOk result (λ x. x.puts ≡ length (changed (entries self.entry.old.now) (entries self.entry.new.now))) }

@@ -23,6 +23,7 @@ pub struct Transition<'a> {
 
 impl Transition<'_> {
     // How many writes it takes; refused where both tables together have more prefixes than a device holds lines.
+    #[tactic(auto, using(crate::proofs::Ending::plan_count))]
     pub fn plan_len(self) -> Result<usize, Refusal>
         ensures refused { option_map number_of (result_err result) ≡ refusal (entries self.entry.old.now) (entries self.entry.new.now) }
         ensures value { IfOk result (λ n. n ≡ length (plan (entries self.entry.old.now) (entries self.entry.new.now))) }
@@ -34,6 +35,7 @@ impl Transition<'_> {
     // Writes the plan to the front of a slice, and says how many writes it has.
     // It is refused, before the first is written, where both tables together have more prefixes than a device holds lines,
     // or where the slice has fewer places than there are writes; then every element is as it was.
+    #[tactic(auto, using(crate::proofs::Ending::plan_count))]
     pub fn plan_into(self, out: &mut [Write]) -> Result<usize, Refusal>
         ensures refused { option_map number_of (result_err result) ≡ refusal_in (entries self.entry.old.now) (entries self.entry.new.now) (length out.old) }
         ensures count { IfOk result (λ n. n ≡ length (plan (entries self.entry.old.now) (entries self.entry.new.now))) }

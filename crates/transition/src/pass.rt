@@ -58,6 +58,7 @@ impl Pass for Puts {
         LENGTHS - 1 - turn
     }
 
+    #[tactic(auto, using(crate::proofs::Held::held_by))]
     fn wants(route: &Route, old: &Table) -> bool {
         old.get(route.prefix) != Some(route.next_hop)
     }
@@ -85,6 +86,7 @@ impl Pass for Drops {
         turn
     }
 
+    #[tactic(auto, using(crate::proofs::Lines::has_at))]
     fn wants(route: &Route, new: &Table) -> bool {
         new.get(route.prefix).is_none()
     }

@@ -1,5 +1,5 @@
 ghost use Rattle.std.specs.Prelude.{◌≡◌, Some};
-ghost use Rattle.transition.specs.Model.{number_of, words_of};
+ghost use Rattle.transition.specs.Model.{number_of, refusal_text};
 
 use std::error::Error;
 use std::fmt;
@@ -26,7 +26,7 @@ impl From<Refusal> for u8 {
 }
 
 impl fmt::Display for Refusal {
-    ghost output = { λ refusal. Some (words_of refusal) };
+    ghost output = { λ refusal. Some (refusal_text refusal) };
 
     fn fmt<W: fmt::Write>(&self, f: &mut fmt::Formatter<W>) -> fmt::Result {
         f.write_str(match self {

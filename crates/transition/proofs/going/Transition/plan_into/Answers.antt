@@ -3,15 +3,8 @@ use Rattle.std.proofs.lemmas.List.{length-take-le}
 use Rattle.table.specs.Model.{entries}
 use Rattle.transition.specs.Plans.{puts, drops, plan}
 use Rattle.transition.proofs.Ending.{plan_count}
-use Rattle.transition.proofs.Halves.{halves_written, halves_left, as_smooth, held, refused_short, refused_not}
+use Rattle.transition.proofs.Halves.{halves_written, halves_left, as_smooth, held}
 use Rattle.transition.proofs.going.Transition.plan_into.Goals as goal
-
-pub returns-then-out-puts-clause-refused : goal.returns-then-out-puts-clause-refused
-returns-then-out-puts-clause-refused c =
-    let old = entries c.args.self.old.now in
-    let new = entries c.args.self.new.now in
-    let e = c.in_ok-puts.ensures in
-    refused_short old new (length c.args.out.now) e.refused (omega (arith, c.if-out-puts.true, e.puts, e.drops, plan_count old new))
 
 pub returns : goal.returns
 returns c =
@@ -29,7 +22,7 @@ returns c =
     let on : length free ≡ m = c.fill-2.auto.out ∙ length-take-le m back (omega (arith, s.back_len, c.if-out-puts.false)) in
     let all = halves_written (puts old new) (drops old new) front free (drop m back) n m long on c.fill.ensures c.fill-2.ensures in
     record {
-      refused = refused_not old new (length c.args.out.now) e.refused (omega (arith, c.if-out-puts.false));
+      refused = grind (arith, count);
       count = count;
       written = all;
       left = halves_left (puts old new) (drops old new) front free (drop m back) n m long on c.args.out.now (ap (drop m) s.back);
