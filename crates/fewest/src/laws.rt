@@ -11,6 +11,7 @@ pub fn fewest_by_example()
 }
 
 // The tree of beginnings says where each address goes.
+#[tactic(auto, using(crate::proofs::Rivals::tree_sends, crate::proofs::Rivals::tree_hops, crate::proofs::Rivals::tree_uniform))]
 pub fn trees_are_beginnings()
     ensures sends { TreeSends }
     ensures hops { TreeHops }
@@ -71,6 +72,7 @@ pub fn edges_are_short()
 
 // What comes near: joining neighbours again and again does not reach the fewest, and a line written as soon as it costs nothing gives another
 // table with as few.
+#[tactic(auto, using(crate::proofs::NearMisses::falls_short, crate::proofs::NearMisses::eager_is_another))]
 pub fn near_misses_differ()
     ensures joining { JoiningFallsShort }
     ensures eager { EagerIsAnother }

@@ -12,6 +12,7 @@ pub fn tables_by_example()
 }
 
 // A look-up finds the longest line with which the address begins.
+#[tactic(auto, using(crate::proofs::Matches::longest))]
 pub fn lookup_is_longest()
     ensures { Longest }
 {
@@ -19,6 +20,7 @@ pub fn lookup_is_longest()
 }
 
 // A look-up is the topmost of what an address sees length by length.
+#[tactic(auto, using(crate::proofs::Tops::topmost, crate::proofs::Picks::seen_at))]
 pub fn lookup_is_topmost()
     ensures topmost { Topmost }
     ensures seen { SeenAt }
@@ -27,6 +29,7 @@ pub fn lookup_is_topmost()
 }
 
 // A put or a drop changes what an address sees at one length only, and what stands at one prefix only.
+#[tactic(auto, using(crate::proofs::Picks::seen_put, crate::proofs::Picks::seen_without, crate::proofs::Picks::at_put, crate::proofs::Picks::at_without))]
 pub fn change_is_local()
     ensures put { SeenPut }
     ensures drop { SeenWithout }
@@ -37,6 +40,7 @@ pub fn change_is_local()
 }
 
 // How many lines there are after a put and after a drop; sound tables stay sound, and rising ones rising.
+#[tactic(auto, using(crate::proofs::Counts::count_put, crate::proofs::Counts::count_without, crate::proofs::Counts::stays_sound, crate::proofs::Rising::stays_rising, crate::proofs::Rising::rising_distinct))]
 pub fn change_keeps_sound()
     ensures count_put { CountPut }
     ensures count_drop { CountWithout }
@@ -48,6 +52,7 @@ pub fn change_keeps_sound()
 }
 
 // The order of the lines does not matter to a look-up.
+#[tactic(auto, using(crate::proofs::Alike::order_free))]
 pub fn order_is_free()
     ensures { OrderFree }
 {
@@ -55,6 +60,7 @@ pub fn order_is_free()
 }
 
 // Tables with the same lines send the same, and only one of them rises.
+#[tactic(auto, using(crate::proofs::Alike::lines_decide_lem, crate::proofs::Alike::rising_once))]
 pub fn lines_decide()
     ensures alike { LinesDecide }
     ensures once { RisingOnce }
@@ -63,6 +69,7 @@ pub fn lines_decide()
 }
 
 // Every table of the code is sound for addresses of 32 bits, and its lines rise.
+#[tactic(auto, using(crate::proofs::Held::all_sound))]
 pub fn tables_are_sound()
     ensures { AllSound }
 {

@@ -20,6 +20,7 @@ pub fn no_wrong_moment()
 }
 
 // What an address finds depends only on the writes of prefixes that it begins with; with none of them it notices nothing.
+#[tactic(auto, using(crate::proofs::Own::own_writes, crate::proofs::Own::untouched))]
 pub fn writes_are_local()
     ensures own { OwnWrites }
     ensures untouched { Untouched }
@@ -37,6 +38,7 @@ pub fn plan_ends_in_new()
 
 // At no moment are there more lines than the old table and the new lines whose prefixes it does not have, so that what is not refused never
 // takes a device beyond what it holds; and these are as many both ways.
+#[tactic(auto, using(crate::proofs::Ending::never_more, crate::proofs::Ending::within_device, crate::proofs::Ending::crowded_is, crate::proofs::Ending::both_ways_alike))]
 pub fn lines_are_bounded()
     ensures moments { NeverMore }
     ensures device { WithinDevice }
@@ -47,6 +49,7 @@ pub fn lines_are_bounded()
 }
 
 // Each write changes the table when its turn comes, and no prefix is written twice.
+#[tactic(auto, using(crate::proofs::Idle::none_idle, crate::proofs::Idle::none_twice))]
 pub fn no_write_is_idle()
     ensures busy { NoneIdle }
     ensures apart { NoneTwice }
@@ -72,6 +75,7 @@ pub fn plan_is_smooth()
 }
 
 // Orders of writes that come near have wrong moments.
+#[tactic(auto, using(crate::proofs::Misses::examples, crate::proofs::Misses::refuted))]
 pub fn near_misses_are_wrong()
     ensures examples { WrongMoments }
     ensures refuted { Refuted }
