@@ -1,5 +1,5 @@
 -- The last line that comes no later than a key: found among the networks, and then among the lines of the key's own network. Assumes nothing.
-use Rattle.std.proofs.Common.{◌≡◌, ℕ, zero, suc, ◌+◌, ◌-◌, ◌<◌, ◌≤◌, Bool, true, false, not, ◌||◌, ◌&&◌, eqb, leb, ltb, List, [], ◌∷◌, map, length, get_or, take, Some, None, Option, IsSomeAnd, IfSome, MatchOption, Iter, sym, ap, ◌∙◌, subst, inl, inr, arith}
+use Rattle.std.proofs.Common.{◌≡◌, ℕ, zero, suc, ◌+◌, ◌-◌, ◌<◌, ◌≤◌, Bool, true, false, not, leb, List, [], ◌∷◌, map, length, get_or, take, Some, None, Option, IsSomeAnd, IfSome, MatchOption, Iter, sym, ap, ◌∙◌, subst, inl, inr, arith}
 use denote.Ref.{Bor}
 use denote.Param.Members.{Mut, Called}
 use Rattle.std.specs.Slice.Iter.{iter_steps_back}
@@ -15,7 +15,9 @@ use Rattle.std.proofs.lemmas.Bool.Decides.{nat_tests}
 use Rattle.prefix.specs.Bits.{Bits, before, number}
 use Rattle.prefix.specs.Model.{bits}
 use Rattle.prefix.specs.declared.cidr.Prefix.{Prefix}
+use Rattle.std.specs.Ordering.{is_le, ordering_then, nat_cmp}
 use Rattle.prefix.proofs.Numbers.{by_number}
+use Rattle.prefix.proofs.Meaning.{before_fields}
 use Rattle.table.specs.declared.route.Route.{Route}
 use Rattle.table.specs.Tables.{rising}
 use Rattle.table.specs.Routes.{entry_of, network_of}
@@ -65,9 +67,9 @@ at_place P [] k h f = absurd (omega arith)
 at_place P (r ∷ rs) zero h f = f r
 at_place P (r ∷ rs) (suc k) h f = at_place P rs k (omega arith) f
 
--- the test of the few lines with a network of at most the key's
-abbrev pub upto : Bits → Bits → Bool
-upto p q = not (eqb (number 32 q) (number 32 p)) || leb (length q) (length p)
+-- what `<=` says of prefixes
+pub le_tells : (q p : Prefix) → is_le (ordering_then (nat_cmp q.network p.network) (nat_cmp q.len p.len)) ≡ not (before (bits p) (bits q))
+le_tells q p = grind (arith, nat_tests, before_fields p q)
 
 pub networks_rise : (rs : List Route) → rising (map entry_of rs) ≡ true → IsNonDecreasing (map network_of rs)
 networks_rise rs up =
@@ -84,26 +86,21 @@ module _ (rs : List Route) (key : Prefix) (up : rising (map entry_of rs) ≡ tru
   q k = prefix_at (map entry_of rs) k
 
   module _ (end : ℕ) (within : end ≤ length rs) (point : IsPartitionPoint (λ n. leb n N ≡ true) (λ n. leb n N ≡ false) (map network_of rs) end) where
-    by : (k : ℕ) → before (bits key) (q k) ≡ (ltb N (number 32 (q k)) || (eqb N (number 32 (q k)) && ltb (length (bits key)) (length (q k))))
-    by k = by_number 32 (bits key) (q k) (key_short key) (prefix_short rs k)
-
     -- the test decides below the end, and from there on all lines come after the key
-    below : (b : Bool) (k : ℕ) → k < end → ((d : Route) → upto (bits key) (bits (get_or (take end rs) k d).prefix) ≡ b) → before (bits key) (q k) ≡ not b
-    below b k h f =
-        let e = at_place (λ x. upto (bits key) x ≡ b) rs k (omega arith) (λ d. rw get_or-take at (f d)) in
-        grind (arith, nat_tests, by k, point.0 k 0 (omega arith) h, network_at rs k (omega arith))
+    below : (b : Bool) (k : ℕ) → k < end → ((d : Route) → not (before (bits key) (bits (get_or (take end rs) k d).prefix)) ≡ b) → before (bits key) (q k) ≡ not b
+    below b k h f = let e = at_place (λ x. not (before (bits key) x) ≡ b) rs k (omega arith) (λ d. rw get_or-take at (f d)) in grind (arith, nat_tests)
 
     beyond : (k : ℕ) → end ≤ k → k < length rs → before (bits key) (q k) ≡ true
-    beyond k h l = let n = point.1 k 0 h (omega (arith, length-map rs network_of)) in grind (arith, nat_tests, by k, network_at rs k l)
+    beyond k h l = let n = point.1 k 0 h (omega (arith, length-map rs network_of)) in grind (arith, nat_tests, by_number 32 (bits key) (q k) (key_short key) (prefix_short rs k), network_at rs k l)
 
-    later : (m : ℕ) → AllWithin (λ (x : Route). upto (bits key) (bits x.prefix) ≡ false) (take end rs) m (length (take end rs)) → (k : ℕ) → m ≤ k → k < length (map entry_of rs) → before (bits key) (q k) ≡ true
+    later : (m : ℕ) → AllWithin (λ (x : Route). not (before (bits key) (bits x.prefix)) ≡ false) (take end rs) m (length (take end rs)) → (k : ℕ) → m ≤ k → k < length (map entry_of rs) → before (bits key) (q k) ≡ true
     later m h k le lt =
         elim (cases_lt k end) [
           | inl y ↦ below false k y (λ d. h k d le (omega (arith, length-take-le end rs within)))
           | inr y ↦ beyond k y (omega (arith, length-map rs entry_of))
         ]
 
-    pub ranks : (r : Option ℕ) → IsLast (λ (x : Route). upto (bits key) (bits x.prefix)) (take end rs) r
+    pub ranks : (r : Option ℕ) → IsLast (λ (x : Route). not (before (bits key) (bits x.prefix))) (take end rs) r
         → MatchOption r (Ranked (map entry_of rs) (bits key) 0) (λ i. Ranked (map entry_of rs) (bits key) (i + 1))
     ranks None h = record { within = omega arith; upto = λ k lt. absurd (omega arith); after = later 0 h }
     ranks (Some i) h =

@@ -15,9 +15,9 @@ impl Table {
     {
         let networks: &[u32] = &self.networks;
         let end = networks.partition_point(|network| *network <= key.network());
-        self.routes[..end].iter().rposition(|route| {
-            route.prefix.network() != key.network() || route.prefix.len() <= key.len()
-        })
+        self.routes[..end]
+            .iter()
+            .rposition(|route| route.prefix <= key)
     }
 
     // Where the route with this prefix stands, or else where it would.
