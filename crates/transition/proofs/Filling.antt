@@ -1,23 +1,25 @@
 -- Filling the front of a slice with the writes of a plan, length by length. Assumes nothing.
-use Rattle.std.proofs.Common.{◌≡◌, ℕ, suc, ◌+◌, ◌-◌, ◌<◌, ◌≤◌, Bool, true, ◌&&◌, leb, List, [], ◌∷◌, ◌++◌, map, length, take, drop, filter, sym, ap, ◌∙◌, append-nil, arith, length-append}
+use Rattle.std.proofs.Common.{◌≡◌, ℕ, suc, ◌+◌, ◌-◌, ◌<◌, ◌≤◌, Bool, true, ◌&&◌, leb, List, [], ◌∷◌, ◌++◌, map, length, take, drop, filter, sym, ap, ◌∙◌, append-nil, arith}
 use Rattle.std.specs.List.{AllByRecursion}
 use Rattle.std.proofs.ByRecursion.{all_kept_by}
-use Rattle.std.proofs.lemmas.List.{take_all, length-map, length-take-le, nil_from_length}
-use Rattle.std.proofs.lemmas.Bool.{cond_both, and_parts, leb-true}
+use Rattle.std.proofs.lemmas.List.{take_all, length-map, nil_from_length}
+use Rattle.std.proofs.lemmas.Bool.{and_parts}
 use Rattle.std.proofs.lemmas.Grind.{common_steps}
+use Rattle.std.proofs.lemmas.Bool.Decides.{nat_tests}
+use Rattle.prefix.specs.Bits.{before}
 use Rattle.table.specs.declared.table.Table.{Table}
 use Rattle.table.specs.declared.route.Route.{Route}
 use Rattle.table.specs.Tables.{Entry, Entries, every, fits, rising, distinct}
 use Rattle.table.specs.Routes.{entry_of}
 use Rattle.table.specs.Model.{entries}
 use Rattle.table.proofs.Picks.{every_parts}
-use Rattle.table.proofs.Rising.{rising_parts, rising_from}
+use Rattle.table.proofs.Rising.{rising_parts}
 use Rattle.table.proofs.Held.{all_sound}
 use Rattle.transition.specs.declared.write.Write.{Write}
 use Rattle.transition.specs.Writes.{Writing}
 use Rattle.transition.specs.Passes.{GoesThrough}
 use Rattle.transition.specs.Plans.{by_length, sorted_by}
-use Rattle.transition.specs.Model.{writing_of, writings_of}
+use Rattle.transition.specs.Model.{writings_of}
 use Rattle.transition.proofs.Lines.{length_sorted}
 use Rattle.transition.proofs.Tiers.{tier, tiers, turns, sorted_turns}
 
@@ -30,11 +32,8 @@ pub record Filled (total : List Writing) (out : List Write) (n : ℕ) (rest : Li
 
 filled_length : (total : List Writing) (out : List Write) (n : ℕ) (rest : List Writing) → Filled total out n rest → n + length rest ≡ length total
 filled_length total out n rest f =
-    let a = length-append (writings_of (take n out)) rest in
-    let b = length-map (take n out) writing_of in
-    let c = length-take-le n out f.within in
     let d = ap length f.front in
-    omega arith
+    grind (arith, common_steps)
 
 -- where as many are written as there are places and writes, all is written
 filled_full : (total : List Writing) (out : List Write) (n : ℕ) (rest : List Writing) → Filled total out n rest → n ≡ length out → length out ≡ length total → writings_of out ≡ total
@@ -82,17 +81,16 @@ every_kept f g (e ∷ es) h =
     let s = every_parts f e es h in let ih = every_kept f g es s.1 in grind (arith, common_steps)
 
 rising_kept : (g : Entry → Bool) (t : Entries) → rising t ≡ true → rising (filter g t) ≡ true
+unfolding rising
 rising_kept g [] h = h
 rising_kept g (e ∷ es) h =
-    let s = rising_parts e es h in
-    cond_both (g e) (e ∷ filter g es) (filter g es) (λ t. rising t ≡ true)
-    (λ _. rising_from e (filter g es) (every_kept _ g es s.0) (rising_kept g es s.1)) (λ _. rising_kept g es s.1)
+    let s = rising_parts e es h in let ih = rising_kept g es s.1 in grind (arith, common_steps, every_kept (λ f. before e.prefix f.prefix) g es)
 
 fits_short : (t : Entries) → fits 32 t ≡ true → AllByRecursion (λ e. length e.prefix ≤ 32) t
 fits_short [] h = tt
 fits_short (e ∷ es) h =
     let s = every_parts (λ f. leb (length f.prefix) 32 && leb f.hop 255) e es h in
-    (leb-true (length e.prefix) 32 (and_parts (leb (length e.prefix) 32) (leb e.hop 255) s.0).0, fits_short es s.1)
+    (grind (arith, nat_tests, common_steps), fits_short es s.1)
 
 -- all of a table's lines that pass the test are written, to as many places
 module _ (first : ℕ → ℕ → Bool) (make : Entry → Writing) (test : Entry → Bool) (f : ℕ → ℕ) (through : GoesThrough first f) (t : Table) (rs : List Route) (are : map entry_of rs ≡ entries t)
