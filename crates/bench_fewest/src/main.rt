@@ -15,16 +15,11 @@ const ROUNDS: u32 = 20;
 // A value for each part of the addresses, level by level: first for all of them, then for the two halves, and so on down to the lines.
 type Levels<T> = Vec<Vec<T>>;
 
-// Levels with one value everywhere, the last with one for each of so many lines.
+// Levels with one value everywhere, down to one for each of so many lines.
 fn levels<T: Copy>(heap: Global, value: T, lines: usize) -> Result<Levels<T>, AllocError> {
     let mut levels = vec![in heap]?;
-    let mut parts = 1;
-    for _ in 0..usize::BITS {
-        levels.push(vec![in heap; value; parts]?)?;
-        if parts >= lines {
-            break;
-        }
-        parts *= 2;
+    for level in 0..=lines.checked_ilog2().unwrap_or(0) {
+        levels.push(vec![in heap; value; 1usize.unbounded_shl(level)]?)?;
     }
     Ok(levels)
 }

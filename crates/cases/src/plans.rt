@@ -105,8 +105,8 @@ fn a_slice_too_short_is_left_as_it_was(rt: HostRuntime) -> Result<(), Fail> {
 // A table of so many lines of 32 bits, from an address on.
 fn hosts(heap: Global, first: u32, lines: u32) -> Result<Table, AllocError> {
     let mut table = Table::new(heap);
-    for i in 0..lines {
-        table.put(route((first.wrapping_add(i), 32, 1)))?;
+    for address in first..first.saturating_add(lines) {
+        table.put(route((address, 32, 1)))?;
     }
     Ok(table)
 }
