@@ -1,5 +1,5 @@
 // The fewest lines for a table of 32,768 lines of 15 bits side by side, in plain C++: the same table, the same algorithm over sets of 256 next
-// hops, the same counts and the same check sum as `bench` prints. g++ -O3 -o fewest fewest.cpp && ./fewest
+// hops, the same counts and the same check sum as `bench_fewest` prints. g++ -O3 -o fewest fewest.cpp && ./fewest
 #include <bitset>
 #include <chrono>
 #include <cstdint>

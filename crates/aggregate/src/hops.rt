@@ -48,7 +48,7 @@ impl HopSet {
         None
     }
 
-    // This set, or in its place the other. There is no branch: which of them is asked for is often as good as random, and would be guessed wrong.
+    // This set, or in its place the other. Word by word, so that it compiles without a branch: which of them is asked for is often as good as random, and would be guessed wrong.
     pub(crate) fn or_if(self, replaced: bool, other: HopSet) -> HopSet
         ensures { (k : ℕ) → has result k ≡ (if replaced then has other k else has self k) }
     {

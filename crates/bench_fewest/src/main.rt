@@ -7,7 +7,7 @@ use samples::{CheckSum, Numbers};
 use std::alloc::{AllocError, Global};
 use std::env;
 use std::time::Instant;
-use table::{NextHop, WANTED_LIMIT};
+use table::WANTED_LIMIT;
 
 // how often the fewest lines are worked out
 const ROUNDS: u32 = 20;
@@ -15,7 +15,7 @@ const ROUNDS: u32 = 20;
 // A value for each part of the addresses, level by level: first for all of them, then for the two halves, and so on down to the lines.
 type Levels<T> = Vec<Vec<T>>;
 
-// Levels with one value everywhere, down to one for each of so many lines.
+// Levels with one value everywhere, down to one for each of so many lines, a power of two.
 fn levels<T: Copy>(heap: Global, value: T, lines: usize) -> Result<Levels<T>, AllocError> {
     let mut levels = vec![in heap]?;
     for level in 0..=lines.checked_ilog2().unwrap_or(0) {

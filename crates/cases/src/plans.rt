@@ -191,3 +191,14 @@ fn no_address_goes_astray_for_a_moment(rt: HostRuntime) -> Result<(), Fail> {
     }
     Ok(())
 }
+
+#[test]
+fn writes_and_refusals_print(rt: HostRuntime) -> Result<(), Fail> {
+    let printed = format!(in rt.alloc(); "{}", put(0x0a00_0000, 8, 3))?;
+    assert_eq!(rt; printed.as_str(), "put 10.0.0.0/8 3");
+    let printed = format!(in rt.alloc(); "{}", remove(0x0a00_0000, 8))?;
+    assert_eq!(rt; printed.as_str(), "drop 10.0.0.0/8");
+    let printed = format!(in rt.alloc(); "{}", Refusal::TooManyLines)?;
+    assert_eq!(rt; printed.as_str(), "going over takes more lines than the device holds");
+    Ok(())
+}

@@ -46,11 +46,9 @@ best l r = best_of (below l r) (first l) (hops (Fork l r))
 unfoldable pub prescribed : Tree → ℕ → Entries
 prescribed (Leaf x) h = single x h
 prescribed (Fork l r) h =
-    (if uniform (Fork l r)
-    then single (first (Fork l r)) h
-    else (if nat_le (below l r h) (1 + lowest_below l r)
-    then forked (prescribed l h) (prescribed r h)
-    else line [] (best l r) ∷ forked (prescribed l (best l r)) (prescribed r (best l r))))
+    if uniform (Fork l r) then single (first (Fork l r)) h
+    else if nat_le (below l r h) (1 + lowest_below l r) then forked (prescribed l h) (prescribed r h)
+    else line [] (best l r) ∷ forked (prescribed l (best l r)) (prescribed r (best l r))
 
 -- the prescribed table for what a table sends where
 abbrev pub short : ℕ → Entries → Entries

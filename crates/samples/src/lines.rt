@@ -1,4 +1,4 @@
-ghost use Rattle.std.specs.Prelude.{◌≡◌, IfOk};
+ghost use Rattle.std.specs.Prelude.{◌≡◌, ◌<◌, length, IfOk, OnErr};
 ghost use Rattle.table.specs.Routes.{entry_of};
 ghost use Rattle.table.specs.Model.{entries};
 ghost use Rattle.samples.specs.Lines.{line_of, filled};
@@ -21,9 +21,10 @@ pub fn route(line: Line) -> Route
     }
 }
 
-// A table of lines, put one after the other.
+// A table of lines, put one after the other; refused only where there are lines, and no memory for one of them.
 pub fn table_of(heap: Global, lines: &[Line]) -> Result<Table, AllocError>
-    ensures { IfOk result (λ t. entries t ≡ filled lines.now) }
+    ensures table { IfOk result (λ t. entries t ≡ filled lines.now) }
+    ensures full { OnErr result (0 < length lines.now) }
 {
     let mut table = Table::new(heap);
     for line in lines {

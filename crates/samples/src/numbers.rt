@@ -1,8 +1,7 @@
-ghost use Rattle.std.specs.Prelude.{◌≡◌};
 ghost use Rattle.samples.specs.Numbers.{Follows};
 
 // A fixed sequence of numbers that look random; the same start gives the same numbers.
-#[derive(Clone, Copy, Debug)]
+#[derive(Debug, Drop)]
 pub struct Numbers(pub u64);
 
 impl Iterator for Numbers {

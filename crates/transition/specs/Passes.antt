@@ -16,7 +16,8 @@ pub record GoesThrough (first : ℕ → ℕ → Bool) (length_at : ℕ → ℕ) 
   pub ordered : (j k : ℕ) → j < k → k ≤ 32 → first (length_at j) (length_at k) ≡ true
   pub reached : (n : ℕ) → n ≤ 32 → (k : ℕ) × (k ≤ 32) × (length_at k ≡ n)
 
--- the longest first, at the turns from 32 down, and the shortest first, at the turns from 0 up
+-- the longest first, at the turns from 32 down, and the shortest first, at the turns from 0 up: that both are such orders is the law that
+-- the two passes of the code have to give, so its proofs stand here
 
 pub longer_strict : Strict is_longer
 longer_strict = record {

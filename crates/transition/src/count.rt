@@ -6,8 +6,8 @@ ghost use Rattle.table.specs.Model.{entries};
 ghost use Rattle.transition.specs.Model.{number_of, refusal};
 ghost use Rattle.transition.specs.Plans.{changed, fresh};
 
-use crate::going::Transition;
 use crate::refusal::Refusal;
+use crate::transition::Transition;
 use table::DEVICE_LIMIT;
 
 // How much of a new table is new.

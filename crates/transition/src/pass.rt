@@ -5,8 +5,7 @@ ghost use Rattle.table.specs.Tables.{Entries, Entry, has, holds};
 ghost use Rattle.transition.specs.Model.{writing_of, writings_of};
 ghost use Rattle.transition.specs.Passes.{GoesThrough, longest_through, shortest_through};
 ghost use Rattle.transition.specs.Plans.{by_length, dropping, is_longer, sorted_by};
-ghost use Rattle.transition.specs.Writes.{Writing};
-ghost use Rattle.transition.specs.Writes.{Put as putting};
+ghost use Rattle.transition.specs.Writes.{Writing, Put as putting};
 
 use crate::write::Write;
 use prefix::LENGTHS;

@@ -6,8 +6,8 @@ use Rattle.table.specs.Model.{entries}
 use Rattle.table.specs.Routes.{entry_of}
 use Rattle.transition.proofs.Held.{held_by}
 use Rattle.transition.proofs.Lines.{has_at}
-use Rattle.transition.proofs.going.Transition.differing.Goals as goal
-use Rattle.transition.proofs.going.Transition.differing.Goals.{in-Some, in-Some-2, in-None}
+use Rattle.transition.proofs.transition.Transition.differing.Goals as goal
+use Rattle.transition.proofs.transition.Transition.differing.Goals.{in-Some, in-Some-2, in-None}
 
 pub loop-route-preserved : goal.loop-route-preserved
 loop-route-preserved c =

@@ -4,7 +4,7 @@ use Rattle.table.specs.Model.{entries}
 use Rattle.transition.specs.Plans.{puts, drops, plan}
 use Rattle.transition.proofs.Ending.{plan_count}
 use Rattle.transition.proofs.Halves.{halves_written, halves_left, as_smooth, held}
-use Rattle.transition.proofs.going.Transition.plan_into.Goals as goal
+use Rattle.transition.proofs.transition.Transition.plan_into.Goals as goal
 
 pub returns : goal.returns
 returns c =
