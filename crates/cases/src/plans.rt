@@ -199,6 +199,9 @@ fn writes_and_refusals_print(rt: HostRuntime) -> Result<(), Fail> {
     let printed = format!(in rt.alloc(); "{}", remove(0x0a00_0000, 8))?;
     assert_eq!(rt; printed.as_str(), "drop 10.0.0.0/8");
     let printed = format!(in rt.alloc(); "{}", Refusal::TooManyLines)?;
-    assert_eq!(rt; printed.as_str(), "going over takes more lines than the device holds");
+    assert_eq!(rt;
+        printed.as_str(),
+        "going over takes more lines than the device holds"
+    );
     Ok(())
 }
