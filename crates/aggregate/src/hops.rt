@@ -8,7 +8,7 @@ use table::NextHop;
 // A set of next hops: a bit for each of the 256, in four words.
 #[derive(Clone, Copy, PartialEq, Eq, Debug)]
 pub struct HopSet {
-    words: [u64; 4],
+    pub words: [u64; 4],
 }
 
 impl HopSet {
