@@ -69,15 +69,8 @@ fn sum_of(writes: &[Write]) -> CheckSum {
 }
 
 // Makes a plan some times over, and says how many writes it has, their check sum, and how many microseconds one took.
-fn go_over(
-    rt: &HostRuntime,
-    name: &str,
-    old: &Table,
-    new: &Table,
-    timed: bool,
-) -> anyhow::Result<()> {
+fn go_over(rt: &HostRuntime, name: &str, going: Transition<'_>, timed: bool) -> anyhow::Result<()> {
     let mut writes = vec![in rt.alloc(); Write::Drop(Prefix::empty()); 2 * DEVICE_LIMIT]?;
-    let going = Transition { old, new };
     let start = Instant::now(rt)?;
     let mut made = Ok(0);
     for _ in 0..PLANS {
@@ -116,15 +109,25 @@ fn run_plans(rt: &HostRuntime, timed: bool) -> anyhow::Result<()> {
     let heap = rt.alloc();
     let full = fill(heap, 3, DEVICE_LIMIT, 0)?;
     let turned = fill(heap, 3, DEVICE_LIMIT, 1)?;
-    go_over(rt, "other next hops", &full, &turned, timed)?;
+    go_over(
+        rt,
+        "other next hops",
+        Transition::between(&full, &turned),
+        timed,
+    )?;
     let half = fill(heap, 3, DEVICE_LIMIT / 2, 0)?;
     let others = fill(heap, 4, DEVICE_LIMIT / 2, 0)?;
-    go_over(rt, "other prefixes", &half, &others, timed)?;
+    go_over(
+        rt,
+        "other prefixes",
+        Transition::between(&half, &others),
+        timed,
+    )?;
     let empty = Table::new(heap);
-    go_over(rt, "from empty", &empty, &full, timed)?;
-    go_over(rt, "to empty", &full, &empty, timed)?;
+    go_over(rt, "from empty", Transition::between(&empty, &full), timed)?;
+    go_over(rt, "to empty", Transition::between(&full, &empty), timed)?;
     let strange = fill(heap, 4, DEVICE_LIMIT, 0)?;
-    go_over(rt, "too many", &full, &strange, timed)
+    go_over(rt, "too many", Transition::between(&full, &strange), timed)
 }
 
 fn main(rt: HostRuntime) -> anyhow::Result<()> {

@@ -18,11 +18,6 @@ fn remove(network: u32, len: u8) -> Write {
     Write::Drop(prefix(network, len))
 }
 
-// Going over from one table to another.
-fn going<'a>(old: &'a Table, new: &'a Table) -> Transition<'a> {
-    Transition { old, new }
-}
-
 // What the slices of these tests hold before a plan is written to them.
 fn blank() -> Write {
     remove(0x7f00_0001, 32)
@@ -33,8 +28,8 @@ fn halves_in_place_of_the_whole(rt: HostRuntime) -> Result<(), Fail> {
     let old = table_of(rt.alloc(), &[(0, 0, 1)])?;
     let new = table_of(rt.alloc(), &[(0, 1, 2), (0x8000_0000, 1, 3)])?;
     let mut out = [blank(); 4];
-    assert_eq!(rt; going(&old, &new).plan_len(), Ok(3));
-    assert_eq!(rt; going(&old, &new).plan_into(&mut out), Ok(3));
+    assert_eq!(rt; Transition::between(&old, &new).plan_len(), Ok(3));
+    assert_eq!(rt; Transition::between(&old, &new).plan_into(&mut out), Ok(3));
     assert_eq!(rt; out[0], put(0, 1, 2));
     assert_eq!(rt; out[1], put(0x8000_0000, 1, 3));
     assert_eq!(rt; out[2], remove(0, 0));
@@ -64,7 +59,7 @@ fn longest_put_first_and_shortest_dropped_first(rt: HostRuntime) -> Result<(), F
         ],
     )?;
     let mut out = [blank(); 7];
-    assert_eq!(rt; going(&old, &new).plan_into(&mut out), Ok(7));
+    assert_eq!(rt; Transition::between(&old, &new).plan_into(&mut out), Ok(7));
     assert_eq!(rt; out[0], put(0x1401_0000, 16, 6));
     assert_eq!(rt; out[1], put(0x1402_0000, 16, 7));
     // one that is there with another next hop is put over
@@ -81,9 +76,9 @@ fn nothing_to_write_for_the_same_table(rt: HostRuntime) -> Result<(), Fail> {
     let old = table_of(rt.alloc(), &[(0, 0, 1), (0x0a00_0000, 8, 0)])?;
     let new = table_of(rt.alloc(), &[(0x0a00_0000, 8, 0), (0, 0, 1)])?;
     let mut out = [blank(); 1];
-    assert_eq!(rt; going(&old, &new).plan_into(&mut out), Ok(0));
+    assert_eq!(rt; Transition::between(&old, &new).plan_into(&mut out), Ok(0));
     assert_eq!(rt; out[0], blank());
-    assert_eq!(rt; going(&old, &new).plan_into(&mut []), Ok(0));
+    assert_eq!(rt; Transition::between(&old, &new).plan_into(&mut []), Ok(0));
     Ok(())
 }
 
@@ -93,7 +88,7 @@ fn a_slice_too_short_is_left_as_it_was(rt: HostRuntime) -> Result<(), Fail> {
     let new = table_of(rt.alloc(), &[(0, 1, 2), (0x8000_0000, 1, 3)])?;
     let mut out = [blank(); 2];
     assert_eq!(rt;
-        going(&old, &new).plan_into(&mut out),
+        Transition::between(&old, &new).plan_into(&mut out),
         Err(Refusal::SliceTooShort)
     );
     assert_eq!(rt; out[0], blank());
@@ -115,24 +110,30 @@ fn hosts(heap: Global, first: u32, lines: u32) -> Result<Table, AllocError> {
 fn the_most_lines_on_the_way_and_one_more(rt: HostRuntime) -> Result<(), Fail> {
     let old = hosts(rt.alloc(), 0, 16_000)?;
     let fits = hosts(rt.alloc(), 15_000, 1_384)?;
-    assert_eq!(rt; going(&old, &fits).plan_len(), Ok(384 + 15_000));
+    assert_eq!(rt;
+        Transition::between(&old, &fits).plan_len(),
+        Ok(384 + 15_000)
+    );
     let one_more = hosts(rt.alloc(), 15_000, 1_385)?;
     assert_eq!(rt;
-        going(&old, &one_more).plan_len(),
+        Transition::between(&old, &one_more).plan_len(),
         Err(Refusal::TooManyLines)
     );
     let mut out = [blank(); 1];
     assert_eq!(rt;
-        going(&old, &one_more).plan_into(&mut out),
+        Transition::between(&old, &one_more).plan_into(&mut out),
         Err(Refusal::TooManyLines)
     );
     assert_eq!(rt; out[0], blank());
     // the same both ways
     assert_eq!(rt;
-        going(&one_more, &old).plan_len(),
+        Transition::between(&one_more, &old).plan_len(),
         Err(Refusal::TooManyLines)
     );
-    assert_eq!(rt; going(&fits, &old).plan_len(), Ok(15_000 + 384));
+    assert_eq!(rt;
+        Transition::between(&fits, &old).plan_len(),
+        Ok(15_000 + 384)
+    );
     assert_eq!(rt; u8::from(Refusal::TooManyLines), 7);
     Ok(())
 }
@@ -143,9 +144,15 @@ fn a_table_beyond_the_device_is_refused(rt: HostRuntime) -> Result<(), Fail> {
     let over = hosts(rt.alloc(), 0, 16_385)?;
     let empty = Table::new(rt.alloc());
     assert_eq!(rt; full.len(), DEVICE_LIMIT);
-    assert_eq!(rt; going(&empty, &full).plan_len(), Ok(16_384));
-    assert_eq!(rt; going(&empty, &over).plan_len(), Err(Refusal::TooManyLines));
-    assert_eq!(rt; going(&over, &empty).plan_len(), Err(Refusal::TooManyLines));
+    assert_eq!(rt; Transition::between(&empty, &full).plan_len(), Ok(16_384));
+    assert_eq!(rt;
+        Transition::between(&empty, &over).plan_len(),
+        Err(Refusal::TooManyLines)
+    );
+    assert_eq!(rt;
+        Transition::between(&over, &empty).plan_len(),
+        Err(Refusal::TooManyLines)
+    );
     Ok(())
 }
 
@@ -173,7 +180,9 @@ fn no_address_goes_astray_for_a_moment(rt: HostRuntime) -> Result<(), Fail> {
     let new = scattered(rt.alloc(), 6)?;
     let mut device = scattered(rt.alloc(), 5)?;
     let mut out = [blank(); 120];
-    let count = going(&old, &new).plan_into(&mut out).unwrap_or(0);
+    let count = Transition::between(&old, &new)
+        .plan_into(&mut out)
+        .unwrap_or(0);
     assert!(rt; count > 60);
     let mut gone = [false; 256];
     for write in out.iter().take(count) {

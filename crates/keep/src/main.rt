@@ -35,7 +35,7 @@ fn plan(heap: Global, going: Transition<'_>) -> anyhow::Result<Result<Vec<Write>
 
 // Takes the device over to a table, write by write; where that is refused, prints by which number, and the device stays as it is.
 fn go_over(rt: &HostRuntime, device: &mut Table, new: &Table) -> anyhow::Result<()> {
-    match plan(rt.alloc(), Transition { old: device, new })? {
+    match plan(rt.alloc(), Transition::between(device, new))? {
         Ok(writes) => {
             // memory first: then no write is refused half-way
             device.reserve(writes.len())?;

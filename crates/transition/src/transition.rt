@@ -21,6 +21,16 @@ pub struct Transition<'a> {
     pub new: &'a Table,
 }
 
+impl<'a> Transition<'a> {
+    // From one table to another.
+    pub fn between(old: &'a Table, new: &'a Table) -> Transition<'a>
+        ensures old { result.old.now ≡ old.now }
+        ensures new { result.new.now ≡ new.now }
+    {
+        Transition { old, new }
+    }
+}
+
 impl Transition<'_> {
     // How many writes it takes; refused where both tables together have more prefixes than a device holds lines.
     #[tactic(auto, using(crate::proofs::Ending::plan_count))]
