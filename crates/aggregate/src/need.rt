@@ -47,7 +47,8 @@ impl Need {
         ensures value { result ≡ need_with self.now hop }
         ensures needed { (t : Tree) → Keeps self.now t → result ≡ capped (need t hop) }
     {
-        self.count.saturating_add(u32::from(!self.reaches(hop)))
+        let count = self.count;
+        count.saturating_add(u32::from(!self.reaches(hop)))
     }
 
     // What two halves need together: this one and the other.

@@ -1,6 +1,6 @@
 // Plans on worked examples: write for write, moment for moment, and refusals that leave the slice as it was.
 use prefix::Prefix;
-use samples::{Numbers, route, table_of};
+use samples::{Line, Numbers, route, table_of};
 use std::alloc::{AllocError, Global};
 use std::test::Fail;
 use table::{DEVICE_LIMIT, Table};
@@ -30,11 +30,11 @@ fn halves_in_place_of_the_whole(rt: HostRuntime) -> Result<(), Fail> {
     let mut out = [blank(); 4];
     assert_eq!(rt; Transition::between(&old, &new).plan_len(), Ok(3));
     assert_eq!(rt; Transition::between(&old, &new).plan_into(&mut out), Ok(3));
-    assert_eq!(rt; out[0], put(0, 1, 2));
-    assert_eq!(rt; out[1], put(0x8000_0000, 1, 3));
-    assert_eq!(rt; out[2], remove(0, 0));
     // the place behind the plan is as it was
-    assert_eq!(rt; out[3], blank());
+    assert_eq!(rt;
+        out,
+        [put(0, 1, 2), put(0x8000_0000, 1, 3), remove(0, 0), blank()]
+    );
     Ok(())
 }
 
@@ -60,14 +60,19 @@ fn longest_put_first_and_shortest_dropped_first(rt: HostRuntime) -> Result<(), F
     )?;
     let mut out = [blank(); 7];
     assert_eq!(rt; Transition::between(&old, &new).plan_into(&mut out), Ok(7));
-    assert_eq!(rt; out[0], put(0x1401_0000, 16, 6));
-    assert_eq!(rt; out[1], put(0x1402_0000, 16, 7));
     // one that is there with another next hop is put over
-    assert_eq!(rt; out[2], put(0x0c00_0000, 8, 5));
-    assert_eq!(rt; out[3], put(0, 0, 9));
-    assert_eq!(rt; out[4], remove(0x0a00_0000, 8));
-    assert_eq!(rt; out[5], remove(0x0b00_0000, 8));
-    assert_eq!(rt; out[6], remove(0x0a01_0000, 16));
+    assert_eq!(rt;
+        out,
+        [
+            put(0x1401_0000, 16, 6),
+            put(0x1402_0000, 16, 7),
+            put(0x0c00_0000, 8, 5),
+            put(0, 0, 9),
+            remove(0x0a00_0000, 8),
+            remove(0x0b00_0000, 8),
+            remove(0x0a01_0000, 16),
+        ]
+    );
     Ok(())
 }
 
@@ -91,19 +96,17 @@ fn a_slice_too_short_is_left_as_it_was(rt: HostRuntime) -> Result<(), Fail> {
         Transition::between(&old, &new).plan_into(&mut out),
         Err(Refusal::SliceTooShort)
     );
-    assert_eq!(rt; out[0], blank());
-    assert_eq!(rt; out[1], blank());
+    assert_eq!(rt; out, [blank(), blank()]);
     assert_eq!(rt; u8::from(Refusal::SliceTooShort), 0);
     Ok(())
 }
 
 // A table of so many lines of 32 bits, from an address on.
 fn hosts(heap: Global, first: u32, lines: u32) -> Result<Table, AllocError> {
-    let mut table = Table::new(heap);
-    for address in first..first.saturating_add(lines) {
-        table.put(route((address, 32, 1)))?;
-    }
-    Ok(table)
+    let lines: Vec<Line> = (first..first.saturating_add(lines))
+        .map(|address| (address, 32, 1))
+        .collect(heap)?;
+    table_of(heap, &lines)
 }
 
 #[test]
@@ -158,15 +161,15 @@ fn a_table_beyond_the_device_is_refused(rt: HostRuntime) -> Result<(), Fail> {
 
 // Some lines of at most 8 bits: few enough prefixes that lines stand under one another, and in both tables.
 fn scattered(heap: Global, start: u64) -> Result<Table, AllocError> {
-    let mut table = Table::new(heap);
-    for n in Numbers(start).take(60) {
-        table.put(route((
+    let lines: Vec<Line> = Numbers(start)
+        .take(60)
+        .map(|n| (
             (n >> 32) as u32,
             ((n >> 24) % 9) as u8,
             ((n >> 16) % 4) as u8,
-        )))?;
-    }
-    Ok(table)
+        ))
+        .collect(heap)?;
+    table_of(heap, &lines)
 }
 
 // Where an address goes before and after; and whether it has gone the new way.
@@ -194,10 +197,7 @@ fn no_address_goes_astray_for_a_moment(rt: HostRuntime) -> Result<(), Fail> {
             *went = now != old.next_hop(address);
         }
     }
-    assert_eq!(rt; device.len(), new.len());
-    for (held, wanted) in device.routes().iter().zip(new.routes()) {
-        assert_eq!(rt; *held, *wanted);
-    }
+    assert!(rt; device == new);
     Ok(())
 }
 

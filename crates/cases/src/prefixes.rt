@@ -65,10 +65,7 @@ fn bits_by_place(rt: HostRuntime) {
 
 // A prefix, or a failure where it is none.
 fn some(p: Option<Prefix>) -> Result<Prefix, Fail> {
-    match p {
-        Some(p) => Ok(p),
-        None => Err(Fail::new("no prefix")),
-    }
+    p.ok_or_else(|| Fail::new("no prefix"))
 }
 
 #[test]
