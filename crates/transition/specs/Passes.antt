@@ -1,6 +1,6 @@
 -- Passes over lines length by length: in which orders, and that none is left out. Assumes nothing.
 use Rattle.std.specs.Prelude.{◌≡◌, ℕ, ◌-◌, ◌<◌, ◌≤◌, Bool, true, false, nat_lt, refl}
-use Rattle.std.proofs.Common.{arith}
+use Rattle.std.proofs.Common.{sym, arith}
 use Rattle.std.proofs.lemmas.Bool.Decides.{nat_tests}
 use Rattle.transition.specs.Plans.{is_longer}
 
@@ -19,19 +19,23 @@ pub record GoesThrough (first : ℕ → ℕ → Bool) (length_at : ℕ → ℕ) 
 -- the longest first, at the turns from 32 down, and the shortest first, at the turns from 0 up: that both are such orders is the law that
 -- the two passes of the code have to give, so its proofs stand here
 
-pub longer_strict : Strict is_longer
-longer_strict = record {
-  irrefl = λ n. grind (arith, nat_tests);
-  trans = λ m n k h g. grind (arith, nat_tests);
-  total = λ m n h g. grind (arith, nat_tests);
-}
-
 pub shorter_strict : Strict nat_lt
 shorter_strict = record {
   irrefl = λ n. grind (arith, nat_tests);
   trans = λ m n k h g. grind (arith, nat_tests);
   total = λ m n h g. grind (arith, nat_tests);
 }
+
+-- an order turned round is strict and total too
+pub turned_strict : (first : ℕ → ℕ → Bool) → Strict first → Strict (λ m n. first n m)
+turned_strict first s = record {
+  irrefl = s.irrefl;
+  trans = λ m n k h g. s.trans k n m g h;
+  total = λ m n h d. s.total n m h (λ e. d (sym e));
+}
+
+pub longer_strict : Strict is_longer
+longer_strict = turned_strict nat_lt shorter_strict
 
 pub longest_through : GoesThrough is_longer (λ turn. 32 - turn)
 longest_through = record {
