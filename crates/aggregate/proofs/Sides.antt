@@ -1,8 +1,7 @@
 -- The routes along an edge. Assumes nothing.
-use Rattle.std.proofs.Common.{◌≡◌, ℕ, zero, suc, ◌<◌, ◌≤◌, Bool, true, false, cond, not, ◌||◌, eqb, [], ◌∷◌, ◌++◌, length, take, drop, Some, None, Option, sym, refl, ap, ◌∙◌, subst, ap₂, append-nil, arith, length-drop, take-append-drop}
+use Rattle.std.proofs.Common.{◌≡◌, ℕ, zero, suc, ◌-◌, ◌<◌, ◌≤◌, Bool, true, false, cond, not, ◌||◌, eqb, [], ◌∷◌, ◌++◌, length, take, drop, Some, None, Option, sym, refl, ap, ◌∙◌, subst, ap₂, append-nil, arith, length-drop, take-append-drop}
 use Rattle.std.specs.List.{slice_get}
 use Rattle.prefix.specs.Bits.{Bits}
-use Rattle.prefix.specs.Model.{bits}
 use Rattle.table.specs.declared.route.Route.{Route}
 use Rattle.table.specs.Examples.{line}
 use Rattle.table.specs.Tables.{Entries}
@@ -13,10 +12,9 @@ use Rattle.fewest.specs.Prescribed.{beneath, prescribed}
 use Rattle.fewest.specs.Edges.{along, onward, sides_before, sides_after, lines_before, lines_after}
 use Rattle.fewest.proofs.Halves.{beneath_append, beneath_beneath, beneath_empty, beneath_line}
 use Rattle.aggregate.specs.declared.need.Need.{Need}
-use Rattle.aggregate.specs.declared.edge.Edge.{Edge}
 use Rattle.aggregate.specs.declared.edge.EdgeRoutes.{EdgeRoutes}
 use Rattle.aggregate.specs.Model.{among, Keeps}
-use Rattle.aggregate.specs.Routes.{over, way, edge_len, line_of, lines_of, sides, side_at, Brought, Surrounds}
+use Rattle.aggregate.specs.Routes.{line_of, lines_of, sides, Brought, Surrounds}
 use Rattle.aggregate.proofs.Keeping.{along_lines}
 
 -- ONE BIT
@@ -65,7 +63,7 @@ beneath_ordered true p s t = beneath_append p s t
 beneath_ordered false p s t = beneath_append p t s
 
 -- the lines on the other side of the bit at a place
-abbrev side_in : Bool → ℕ → Bits → ℕ → Entries
+abbrev pub side_in : Bool → ℕ → Bits → ℕ → Entries
 side_in f x p i = beneath (take i p) (sides f x (take 1 (drop i p)))
 
 -- the lines aside of one or two bits are those of the first and those of the second
@@ -105,49 +103,53 @@ along_sides (suc (suc (suc n))) x s h e = absurd (no_sides (eqb (suc (suc (suc n
 
 -- THE WHOLE EDGE
 
-module _ (e : Edge) (h : ℕ) (n : Need) (r : EdgeRoutes) where
-  surrounds : (c : Along) → c ≡ along (edge_len e) e.hop (among n) h → Brought e h c r → (t : Tree) → Keeps n t → Surrounds e h r t
-  surrounds c i b t k =
-      let u : Entries = prescribed t (onward c e.hop h) in
+module _ (p : Bits) (i x h : ℕ) (n : Need) (r : EdgeRoutes) where
+  -- the choice along the edge's own bits
+  abbrev choice : Along
+  choice = along (length p - i) x (among n) h
+
+  pub surrounds : (c : Along) → c ≡ choice → Brought p i x h c r → (t : Tree) → Keeps n t → Surrounds p i x h r t
+  surrounds c is b t k =
+      let u : Entries = prescribed t (onward c x h) in
       record {
         whole =
-            ap (beneath (over e)) (along_lines n (edge_len e) e.hop h c i (way e) t (length-drop e.from (bits e.node)) k) ∙
-            beneath_append (over e) (lines_before c e.hop (way e)) (beneath (way e) u ++ lines_after c e.hop (way e)) ∙
+            ap (beneath (take i p)) (along_lines n (length p - i) x h c is (drop i p) t (length-drop i p) k) ∙
+            beneath_append (take i p) (lines_before c x (drop i p)) (beneath (drop i p) u ++ lines_after c x (drop i p)) ∙
             ap₂ (λ (s v : Entries). s ++ v) (sym b.earlier)
-            (beneath_append (over e) (beneath (way e) u) (lines_after c e.hop (way e)) ∙
+            (beneath_append (take i p) (beneath (drop i p) u) (lines_after c x (drop i p)) ∙
             ap₂ (λ (s v : Entries). s ++ v)
-            (beneath_beneath (over e) (way e) u ∙ ap₂ (λ (q : Bits) (j : ℕ). beneath q (prescribed t j)) (take-append-drop e.from (bits e.node)) (sym b.on))
+            (beneath_beneath (take i p) (drop i p) u ∙ ap₂ (λ (q : Bits) (j : ℕ). beneath q (prescribed t j)) (take-append-drop i p) (sym b.on))
             (sym b.later));
       }
 
   -- what the code promises, if it brings what is written along the edge
   pub record Routed : Type 0 where
-    pub value : Brought e h (along (edge_len e) e.hop (among n) h) r
-    pub lines : (t : Tree) → Keeps n t → Surrounds e h r t
+    pub value : Brought p i x h choice r
+    pub lines : (t : Tree) → Keeps n t → Surrounds p i x h r t
 
-  routed : (c : Along) → c ≡ along (edge_len e) e.hop (among n) h → Brought e h c r → Routed
-  routed c i b = record { value = subst (λ (a : Along). Brought e h a r) i b; lines = surrounds c i b }
+  routed : (c : Along) → c ≡ choice → Brought p i x h c r → Routed
+  routed c is b = record { value = subst (λ (a : Along). Brought p i x h a r) is b; lines = surrounds c is b }
 
   -- case by case
-  pub nothing_routed : Nothing ≡ along (edge_len e) e.hop (among n) h → lines_of r.before ≡ [] → lines_of r.after ≡ [] → r.onward ≡ h → Routed
-  nothing_routed i b a o = routed Nothing i (record { earlier = b ∙ sym (beneath_empty (over e)); later = a ∙ sym (beneath_empty (over e)); on = o })
+  pub nothing_routed : Nothing ≡ choice → lines_of r.before ≡ [] → lines_of r.after ≡ [] → r.onward ≡ h → Routed
+  nothing_routed is b a o = routed Nothing is (record { earlier = b ∙ sym (beneath_empty (take i p)); later = a ∙ sym (beneath_empty (take i p)); on = o })
 
-  pub top_routed : Top ≡ along (edge_len e) e.hop (among n) h → lines_of r.before ≡ line (over e) e.hop ∷ [] → lines_of r.after ≡ [] → r.onward ≡ e.hop → Routed
-  top_routed i b a o = routed Top i (record {
-    earlier = b ∙ ap₂ (λ (q : Bits) (s : Entries). line q e.hop ∷ s) (sym (append-nil (over e))) (sym (beneath_empty (over e))) ∙ sym (beneath_line (over e) [] e.hop []);
-    later = a ∙ sym (beneath_empty (over e));
+  pub top_routed : Top ≡ choice → lines_of r.before ≡ line (take i p) x ∷ [] → lines_of r.after ≡ [] → r.onward ≡ x → Routed
+  top_routed is b a o = routed Top is (record {
+    earlier = b ∙ ap₂ (λ (q : Bits) (s : Entries). line q x ∷ s) (sym (append-nil (take i p))) (sym (beneath_empty (take i p))) ∙ sym (beneath_line (take i p) [] x []);
+    later = a ∙ sym (beneath_empty (take i p));
     on = o;
   })
 
-  pub sides_routed : Sides ≡ along (edge_len e) e.hop (among n) h → lines_of r.before ≡ side_at e e.from true ++ side_at e (suc e.from) true →
-      lines_of r.after ≡ side_at e (suc e.from) false ++ side_at e e.from false → r.onward ≡ h → Routed
-  sides_routed i b a o =
-      let short = along_sides (edge_len e) e.hop (among n) h i in
-      let some : 0 < length (way e) = omega (arith, length-drop e.from (bits e.node), short.0) in
-      let few : length (way e) ≤ 2 = omega (arith, length-drop e.from (bits e.node), short.1) in
-      routed Sides i (record {
-        earlier = b ∙ sym (sides_two true e.hop e.from (bits e.node) some few);
-        later = a ∙ sym (sides_two false e.hop e.from (bits e.node) some few);
+  pub sides_routed : Sides ≡ choice → lines_of r.before ≡ side_in true x p i ++ side_in true x p (suc i) →
+      lines_of r.after ≡ side_in false x p (suc i) ++ side_in false x p i → r.onward ≡ h → Routed
+  sides_routed is b a o =
+      let short = along_sides (length p - i) x (among n) h is in
+      let some : 0 < length (drop i p) = omega (arith, length-drop i p, short.0) in
+      let few : length (drop i p) ≤ 2 = omega (arith, length-drop i p, short.1) in
+      routed Sides is (record {
+        earlier = b ∙ sym (sides_two true x i p some few);
+        later = a ∙ sym (sides_two false x i p some few);
         on = o;
       })
 

@@ -12,15 +12,7 @@ use Rattle.fewest.specs.Edges.{edge, onward, sides_before, sides_after, lines_be
 use Rattle.aggregate.specs.declared.edge.Edge.{Edge}
 use Rattle.aggregate.specs.declared.edge.EdgeRoutes.{EdgeRoutes}
 
--- the bits above an edge, which its upper end has,
-abbrev pub over : Edge → Bits
-over e = take e.from (bits e.node)
-
--- its own bits, from there down to its node,
-abbrev pub way : Edge → Bits
-way e = drop e.from (bits e.node)
-
--- and how many these are
+-- how many bits of its own an edge has
 abbrev pub edge_len : Edge → ℕ
 edge_len e = length (bits e.node) - e.from
 
@@ -41,12 +33,13 @@ sides earlier x bs = (if earlier then sides_before x bs else sides_after x bs)
 abbrev pub side_at : Edge → ℕ → Bool → Entries
 side_at e i earlier = beneath (take i (bits e.node)) (sides earlier e.hop (take 1 (drop i (bits e.node))))
 
--- the routes along an edge, if c is written along it for one who comes with h: the lines of the definition, under the bits above the edge
-pub record Brought (e : Edge) (h : ℕ) (c : Along) (r : EdgeRoutes) : Type 0 where
-  pub earlier : lines_of r.before ≡ beneath (over e) (lines_before c e.hop (way e))
-  pub later : lines_of r.after ≡ beneath (over e) (lines_after c e.hop (way e))
-  pub on : r.onward ≡ onward c e.hop h
+-- the routes along the edge that ends at p and has all but the first `from` bits of it, if c is written along it for one who comes with h: the lines
+-- of the definition, under the bits above the edge
+pub record Brought (p : Bits) (from x h : ℕ) (c : Along) (r : EdgeRoutes) : Type 0 where
+  pub earlier : lines_of r.before ≡ beneath (take from p) (lines_before c x (drop from p))
+  pub later : lines_of r.after ≡ beneath (take from p) (lines_after c x (drop from p))
+  pub on : r.onward ≡ onward c x h
 
 -- so the prescribed lines of the whole edge are these routes, and between them those of the tree at its end
-pub record Surrounds (e : Edge) (h : ℕ) (r : EdgeRoutes) (t : Tree) : Type 0 where
-  pub whole : beneath (over e) (prescribed (edge e.hop (way e) t) h) ≡ lines_of r.before ++ (beneath (bits e.node) (prescribed t r.onward) ++ lines_of r.after)
+pub record Surrounds (p : Bits) (from x h : ℕ) (r : EdgeRoutes) (t : Tree) : Type 0 where
+  pub whole : beneath (take from p) (prescribed (edge x (drop from p) t) h) ≡ lines_of r.before ++ (beneath p (prescribed t r.onward) ++ lines_of r.after)

@@ -1,5 +1,6 @@
 ghost use Rattle.std.specs.Prelude.{◌≡◌, length};
 ghost use Rattle.prefix.specs.Bits.{Bits};
+ghost use Rattle.prefix.specs.Model.{bits as prefix_bits};
 ghost use Rattle.fewest.specs.Trees.{Tree};
 ghost use Rattle.fewest.specs.Prescribed.{prescribed};
 ghost use Rattle.fewest.specs.Edges.{along, edge};
@@ -79,8 +80,8 @@ impl Edge {
 
     // The routes along the edge, for one who comes to its upper end with a given next hop, where the node needs so many lines.
     pub fn routes(self, need: &Need, given: NextHop) -> EdgeRoutes
-        ensures value { Brought self given (along (edge_len self) self.hop (among need.now) given) result }
-        ensures lines { (t : Tree) → Keeps need.now t → Surrounds self given result t }
+        ensures value { Brought (prefix_bits self.node) self.from self.hop given (along (edge_len self) self.hop (among need.now) given) result }
+        ensures lines { (t : Tree) → Keeps need.now t → Surrounds (prefix_bits self.node) self.from self.hop given result t }
     {
         match need.along(self.len(), self.hop, given) {
             Along::Nothing => EdgeRoutes {

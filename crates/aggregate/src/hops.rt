@@ -1,14 +1,24 @@
-ghost use Rattle.std.specs.Prelude.{◌≡◌, ℕ, ◌&&◌, ◌||◌, ◌==◌, if◌then◌else◌};
+ghost use Rattle.std.specs.Prelude.{◌≡◌, ℕ, ◌&&◌, ◌||◌, ◌==◌, if◌then◌else◌, Some, decimal};
+ghost use Rattle.std.specs.Fmt.{debug_list};
 ghost use Rattle.aggregate.specs.Sets.{Empty, Lowest, has};
 
-use std::array;
 use std::ops::{BitAnd, BitOr};
+use std::{array, fmt};
 use table::NextHop;
 
 // A set of next hops: a bit for each of the 256, in four words.
-#[derive(Clone, Copy, PartialEq, Eq, Debug)]
+#[derive(Clone, Copy, PartialEq, Eq, PartialOrd, Ord, Hash, Default)]
 pub struct HopSet {
     pub words: [u64; 4],
+}
+
+// It shows its words, as an array of them does.
+impl fmt::Debug for HopSet {
+    ghost debug_output = { λ set. debug_list (λ word. Some (decimal word)) set.words };
+
+    fn fmt<W: fmt::Write>(&self, f: &mut fmt::Formatter<W>) -> fmt::Result {
+        fmt::Debug::fmt(&self.words, f)
+    }
 }
 
 impl HopSet {

@@ -153,6 +153,7 @@ fn lines_stand_in_their_order(rt: HostRuntime) -> Result<(), Fail> {
     for line in rising.iter().rev() {
         table.put(*line)?;
     }
+    assert_eq!(rt; table.len(), 5);
     assert!(rt; table.routes() == rising.as_slice());
     Ok(())
 }

@@ -7,6 +7,10 @@ use Rattle.prefix.specs.declared.part.Parting.{Parting}
 use Rattle.prefix.specs.declared.part.Parting.TheVariants.{Same, Below, Above, Apart}
 use Rattle.prefix.specs.Bits.{Bits, bits_of, same, before}
 
+-- how many bits an address of the code has: prefixes have as many at most, so there is one length more than that
+abbrev pub address_width : ℕ
+address_width = 32
+
 -- an address of the code: all of its 32 bits
 abbrev pub address_bits : ℕ → Bits
 address_bits a = bits_of 32 a

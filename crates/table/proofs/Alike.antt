@@ -69,7 +69,7 @@ module _ (f : Bits → Bool) where
         by_ways None (Some x) g h = h x refl
         by_ways (Some x) p g h = sym (g x refl)
 
-top_alike : (f g : ℕ → Option ℕ) (w : ℕ) → ((n : ℕ) → f n ≡ g n) → top f w ≡ top g w
+pub top_alike : (f g : ℕ → Option ℕ) (w : ℕ) → ((n : ℕ) → f n ≡ g n) → top f w ≡ top g w
 unfolding top
 top_alike f g zero h = rw (h zero)
 top_alike f g (suc w) h = rw (h (suc w), top_alike f g w h)

@@ -5,7 +5,6 @@ pub mod Rising
 pub mod Unique
 pub mod Alike
 pub mod Places
-pub mod Ranks
 pub mod Held
 pub mod Longest
 pub mod Steps

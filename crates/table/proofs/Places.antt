@@ -1,5 +1,5 @@
 -- Rising tables by places: where a prefix stands or would stand, and what puts and drops do there. Assumes nothing.
-use Rattle.std.proofs.Common.{◌≡◌, ℕ, zero, suc, ◌+◌, ◌<◌, ◌≤◌, true, false, List, [], ◌∷◌, map, length, get_or, set, Some, None, sym, refl, ap, ◌∙◌, inl, inr, arith}
+use Rattle.std.proofs.Common.{◌≡◌, ℕ, zero, suc, ◌+◌, ◌<◌, ◌≤◌, true, false, not, ltb, leb, List, [], ◌∷◌, map, length, get_or, set, Some, None, sym, refl, ap, ◌∙◌, inl, inr, arith}
 use Rattle.std.specs.List.{insert as inserted, remove}
 use Rattle.std.proofs.lemmas.List.{get_or-map, length-map, map-append, map-set, set-get_or, take-map, drop-map}
 use Rattle.std.proofs.lemmas.Bool.{and_from, cases_Bool, or_parts}
@@ -9,6 +9,7 @@ use Rattle.prefix.specs.Model.{bits}
 use Rattle.prefix.proofs.Strings.{same_refl}
 use Rattle.prefix.proofs.Order.{before_not, before_total, before_trans, before_differ, differ_turn}
 use Rattle.prefix.specs.declared.cidr.Prefix.{Prefix}
+use Rattle.prefix.proofs.Numbers.{by_number}
 use Rattle.prefix.proofs.Meaning.{bits_length}
 use Rattle.table.specs.declared.route.Route.{Route}
 use Rattle.table.specs.Tables.{Entry, Entries, has, pick, at, without, insert, put, leads, rising, every}
@@ -35,6 +36,14 @@ prefix_short [] k = omega arith
 prefix_short (r ∷ rs) zero = key_short r.prefix
 prefix_short (r ∷ rs) (suc k) = prefix_short rs k
 
+-- a comparison by numbers, and at equal ones by lengths
+
+pub by_network : (w : ℕ) (p q : Bits) → length p ≤ w → length q ≤ w → (number w q ≡ number w p → ⊥) → ltb (number w q) (number w p) ≡ not (before p q)
+by_network w p q h k n = let e = by_number w p q h k in grind (arith, nat_tests)
+
+pub by_length : (w : ℕ) (p q : Bits) → length p ≤ w → length q ≤ w → number w q ≡ number w p → leb (length q) (length p) ≡ not (before p q)
+by_length w p q h k n = let e = by_number w p q h k in grind (arith, nat_tests)
+
 -- lines at two places
 
 leads_at : (e : Entry) (t : Entries) (k : ℕ) → leads e t ≡ true → k < length t → before e.prefix (prefix_at t k) ≡ true
@@ -51,6 +60,10 @@ rising_at (e ∷ es) (suc i) (suc j) r h k = rising_at es i j (rising_parts e es
 -- what does not come before the line at m comes before none up to there
 pub low_side : (t : Entries) (p : Bits) (k m : ℕ) → rising t ≡ true → m < length t → before p (prefix_at t m) ≡ false → k ≤ m → before p (prefix_at t k) ≡ false
 low_side t p k m r h n l = grind (arith, nat_tests, before_trans p (prefix_at t k) (prefix_at t m), rising_at t k m r, λ (e : k ≡ m). ap (prefix_at t) e)
+
+-- what comes before the line at m comes before all from there on
+pub high_side : (t : Entries) (p : Bits) (m k : ℕ) → rising t ≡ true → before p (prefix_at t m) ≡ true → m ≤ k → k < length t → before p (prefix_at t k) ≡ true
+high_side t p m k r n l h = grind (arith, nat_tests, before_trans p (prefix_at t m) (prefix_at t k), rising_at t m k r, λ (e : m ≡ k). ap (prefix_at t) e)
 
 -- what comes after the line at i comes after all up to there
 pub all_below : (t : Entries) (p : Bits) (i : ℕ) → rising t ≡ true → i < length t → before (prefix_at t i) p ≡ true → (k : ℕ) → k < i + 1 → before (prefix_at t k) p ≡ true

@@ -19,7 +19,7 @@ pub rising_from : (e : Entry) (es : Entries) → leads e es ≡ true → rising 
 unfolding rising
 rising_from e es l h = and_from _ _ l h
 
-leads_through : (e f : Entry) (fs : Entries) → before e.prefix f.prefix ≡ true → leads f fs ≡ true → leads e fs ≡ true
+pub leads_through : (e f : Entry) (fs : Entries) → before e.prefix f.prefix ≡ true → leads f fs ≡ true → leads e fs ≡ true
 unfolding every
 leads_through e f [] b h = refl
 leads_through e f (g ∷ gs) b h = grind (arith, nat_tests, leads_through e f gs b, before_trans e.prefix f.prefix g.prefix b)

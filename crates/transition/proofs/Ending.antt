@@ -131,7 +131,6 @@ never_more old new od nd k =
     let es = putting old new in
     let fs = leaving old new in
     let c = covered (moment (plan old new) old k) (old ++ fresh old new) (distinct_all (take k (plan old new)) old od)
-    (union_distinct old new nd od)
     (λ p y. union_has old new nd p ∙ from_either (has p (take (k - length es) fs)) (at (take k es) p) (at old p) (at new p)
     (sym (ap is_some (moment_at old new nd k p)) ∙ sym (has_at p (moment (plan old new) old k)) ∙ y)
     (λ z. sym (has_at p new) ∙ putting_new old new p od nd (taken_has p k es (has_at p (take k es) ∙ z)))) in

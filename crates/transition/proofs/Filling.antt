@@ -93,13 +93,13 @@ fits_short (e ∷ es) h =
     (grind (arith, nat_tests, common_steps), fits_short es s.1)
 
 -- all of a table's lines that pass the test are written, to as many places
-module _ (first : ℕ → ℕ → Bool) (make : Entry → Writing) (test : Entry → Bool) (f : ℕ → ℕ) (through : GoesThrough first f) (t : Table) (rs : List Route) (are : map entry_of rs ≡ entries t)
+module _ (first : ℕ → ℕ → Bool) (make : Entry → Writing) (test : Entry → Bool) (f : ℕ → ℕ) (through : GoesThrough 32 first f) (t : Table) (rs : List Route) (are : map entry_of rs ≡ entries t)
     (out : List Write) (n : ℕ) (long : length out ≡ length (filter test (entries t))) where
   turns_are : at_turn make test rs f 0 ≡ map make (sorted_by (by_length first) (filter test (entries t)))
   turns_are =
       let short = fits_short (entries t) (and_parts (distinct (entries t)) (fits 32 (entries t)) (all_sound t).0).1 in
       ap (λ (es : Entries). map make (tiers (turns f 33 0) (filter test es))) are
-      ∙ ap (map make) (sym (sorted_turns first f through (filter test (entries t)) (all_kept_by test (λ e. length e.prefix ≤ 32) (entries t) short) (rising_kept test (entries t) t.ordered)))
+      ∙ ap (map make) (sym (sorted_turns 32 first f through (filter test (entries t)) (all_kept_by test (λ e. length e.prefix ≤ 32) (entries t) short) (rising_kept test (entries t) t.ordered)))
 
   turns_count : length out ≡ length (at_turn make test rs f 0)
   turns_count =

@@ -13,7 +13,7 @@ use Rattle.transition.specs.Plans.{changed, fresh}
 use Rattle.transition.proofs.Lines.{is_hop, holds_at}
 use Rattle.transition.proofs.Ending.{both_ways_alike}
 
-apart : (t : Table) → distinct (entries t) ≡ true
+pub apart : (t : Table) → distinct (entries t) ≡ true
 apart t = rising_distinct (entries t) t.ordered
 
 hop_eq : (x : ℕ) (o : Option ℕ) → option_eq eqb o (Some x) ≡ is_hop x o

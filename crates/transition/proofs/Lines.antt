@@ -8,7 +8,7 @@ use Rattle.prefix.proofs.Order.{differ_turn}
 use Rattle.table.specs.Tables.{Entry, Entries, has, distinct, pick, at, without, holds}
 use Rattle.table.specs.Laws.{SameLines}
 use Rattle.table.proofs.Picks.{has_without, at_without}
-use Rattle.table.proofs.Counts.{count_without, distinct_parts, distinct_from, distinct_insert, distinct_without}
+use Rattle.table.proofs.Counts.{distinct_parts, distinct_from, distinct_insert, distinct_without}
 use Rattle.table.proofs.Alike.{holds_has}
 use Rattle.transition.specs.Writes.{Writing, Put, Drop, written, written_all}
 use Rattle.transition.specs.Plans.{insert_by, sorted_by}
@@ -161,15 +161,28 @@ has_others : (p q : Bits) (t : Entries) → same p q ≡ false → has p (withou
 has_others p q t n =
     has_at p (without q t) ∙ ap is_some (at_without q t p ∙ cond-false (same p q) None (at t p) n) ∙ sym (has_at p t)
 
+without_le : (p : Bits) (t : Entries) → length (without p t) ≤ length t
+unfolding without
+without_le p [] = omega arith
+without_le p (e ∷ es) = let ih = without_le p es in grind (arith, common_steps)
+
+without_less : (p : Bits) (t : Entries) → has p t ≡ true → suc (length (without p t)) ≤ length t
+unfolding without has
+without_less p [] h = cc
+without_less p (e ∷ es) h =
+    let ih = without_less p es in
+    let le = without_le p es in
+    grind (arith, common_steps)
+
 -- a table whose prefixes are all in another has no more lines
-pub covered : (t u : Entries) → distinct t ≡ true → distinct u ≡ true → ((p : Bits) → has p t ≡ true → has p u ≡ true) → length t ≤ length u
+pub covered : (t u : Entries) → distinct t ≡ true → ((p : Bits) → has p t ≡ true → has p u ≡ true) → length t ≤ length u
 unfolding has
-covered [] u d g h = omega arith
-covered (e ∷ es) u d g h =
+covered [] u d h = omega arith
+covered (e ∷ es) u d h =
     let s = distinct_parts e es d in
     let there : has e.prefix u ≡ true = h e.prefix (or_left _ _ (same_refl e.prefix)) in
-    let rest = covered es (without e.prefix u) s.1 (distinct_without e.prefix u g) (λ p y. has_others p e.prefix u (off p s.0 y) ∙ h p (or_right _ _ y)) in
-    omega (arith, rest, rw there at (count_without e.prefix u g))
+    let rest = covered es (without e.prefix u) s.1 (λ p y. has_others p e.prefix u (off p s.0 y) ∙ h p (or_right _ _ y)) in
+    omega (arith, without_less e.prefix u there)
   where
     off : (p : Bits) → has e.prefix es ≡ false → has p es ≡ true → same p e.prefix ≡ false
     off p n y = false_from_ne_true (same p e.prefix) (λ z. both_ways (has e.prefix es) n (rw (← same_eq p e.prefix z) y))
@@ -177,6 +190,6 @@ covered (e ∷ es) u d g h =
 -- tables with the same prefixes have as many lines
 pub as_many : (t u : Entries) → distinct t ≡ true → distinct u ≡ true → ((p : Bits) → has p t ≡ has p u) → length t ≡ length u
 as_many t u d e h =
-    let a = covered t u d e (λ p y. sym (h p) ∙ y) in
-    let b = covered u t e d (λ p y. h p ∙ y) in
+    let a = covered t u d (λ p y. sym (h p) ∙ y) in
+    let b = covered u t e (λ p y. h p ∙ y) in
     omega arith

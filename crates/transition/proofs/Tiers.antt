@@ -126,33 +126,33 @@ module _ (first : ℕ → ℕ → Bool) (strict : Strict first) where
 
 -- the lengths of all turns
 
-turns_later : (first : ℕ → ℕ → Bool) (f : ℕ → ℕ) (through : GoesThrough first f) (k n j : ℕ) → j < n → n + k ≤ 33 → AllByRecursion (λ m. first (f j) m ≡ true) (turns f k n)
-unfolding turns
-turns_later first f through zero n j h l = tt
-turns_later first f through (suc k) n j h l = (through.ordered j n h (omega arith), turns_later first f through k (suc n) j (omega arith) (omega arith))
+module _ (w : ℕ) (first : ℕ → ℕ → Bool) (f : ℕ → ℕ) (through : GoesThrough w first f) where
+  turns_later : (k n j : ℕ) → j < n → n + k ≤ suc w → AllByRecursion (λ m. first (f j) m ≡ true) (turns f k n)
+  unfolding turns
+  turns_later zero n j h l = tt
+  turns_later (suc k) n j h l = (through.ordered j n h (omega arith), turns_later k (suc n) j (omega arith) (omega arith))
 
-turns_ordered : (first : ℕ → ℕ → Bool) (f : ℕ → ℕ) (through : GoesThrough first f) (k n : ℕ) → n + k ≤ 33 → Ordered first through.strict (turns f k n)
-unfolding turns Ordered
-turns_ordered first f through zero n l = tt
-turns_ordered first f through (suc k) n l = (turns_later first f through k (suc n) n (omega arith) (omega arith), turns_ordered first f through k (suc n) (omega arith))
+  turns_ordered : (k n : ℕ) → n + k ≤ suc w → Ordered first through.strict (turns f k n)
+  unfolding turns Ordered
+  turns_ordered zero n l = tt
+  turns_ordered (suc k) n l = (turns_later k (suc n) n (omega arith) (omega arith), turns_ordered k (suc n) (omega arith))
 
-turns_among : (f : ℕ → ℕ) (k n j : ℕ) → n ≤ j → j < n + k → Among (f j) (turns f k n)
-unfolding turns Among
-turns_among f zero n j h l = absurd (omega arith)
-turns_among f (suc k) n j h l =
-    elim (cases_eq j n) [
-      | inl e ↦ inl (ap f e)
-      | inr e ↦ inr (turns_among f k (suc n) j (omega arith) (omega arith))
-    ]
+  turns_among : (k n j : ℕ) → n ≤ j → j < n + k → Among (f j) (turns f k n)
+  unfolding turns Among
+  turns_among zero n j h l = absurd (omega arith)
+  turns_among (suc k) n j h l =
+      elim (cases_eq j n) [
+        | inl e ↦ inl (ap f e)
+        | inr e ↦ inr (turns_among k (suc n) j (omega arith) (omega arith))
+      ]
 
-among_all : (first : ℕ → ℕ → Bool) (f : ℕ → ℕ) → GoesThrough first f → (m : ℕ) → m ≤ 32 → Among m (turns f 33 0)
-among_all first f through m h =
-    let (j, l, e) = through.reached m h in
-    subst (λ (n : ℕ). Among n (turns f 33 0)) e (turns_among f 33 0 j (omega arith) (omega arith))
+  among_all : (m : ℕ) → m ≤ w → Among m (turns f (suc w) 0)
+  among_all m h =
+      let (j, l, e) = through.reached m h in
+      subst (λ (n : ℕ). Among n (turns f (suc w) 0)) e (turns_among (suc w) 0 j (omega arith) (omega arith))
 
--- a table in order, of prefixes of at most 32 bits, gone through by turns
-pub sorted_turns : (first : ℕ → ℕ → Bool) (f : ℕ → ℕ) → GoesThrough first f → (t : Entries) → AllByRecursion (λ e. length e.prefix ≤ 32) t → rising t ≡ true →
-    sorted_by (by_length first) t ≡ tiers (turns f 33 0) t
-sorted_turns first f through t h r =
-    tiers_sort first through.strict (turns f 33 0) t (turns_ordered first f through 33 0 (omega arith))
-    (All-weaker (λ e. length e.prefix ≤ 32) (λ e. Among (length e.prefix) (turns f 33 0)) (λ e l. among_all first f through (length e.prefix) l) t h) r
+  -- a table in order, of prefixes of at most w bits, gone through by turns
+  pub sorted_turns : (t : Entries) → AllByRecursion (λ e. length e.prefix ≤ w) t → rising t ≡ true → sorted_by (by_length first) t ≡ tiers (turns f (suc w) 0) t
+  sorted_turns t h r =
+      tiers_sort first through.strict (turns f (suc w) 0) t (turns_ordered (suc w) 0 (omega arith))
+      (All-weaker (λ e. length e.prefix ≤ w) (λ e. Among (length e.prefix) (turns f (suc w) 0)) (λ e l. among_all (length e.prefix) l) t h) r

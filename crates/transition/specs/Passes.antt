@@ -10,13 +10,13 @@ pub record Strict (first : ℕ → ℕ → Bool) : Type 0 where
   pub trans : (m n k : ℕ) → first m n ≡ true → first n k ≡ true → first m k ≡ true
   pub total : (m n : ℕ) → first m n ≡ false → (m ≡ n → ⊥) → first n m ≡ true
 
--- one length at each turn from 0 to 32: those come first that the order puts first, and each of 0 to 32 has a turn
-pub record GoesThrough (first : ℕ → ℕ → Bool) (length_at : ℕ → ℕ) : Type 0 where
+-- one length at each turn from 0 to w: those come first that the order puts first, and each of 0 to w has a turn
+pub record GoesThrough (w : ℕ) (first : ℕ → ℕ → Bool) (length_at : ℕ → ℕ) : Type 0 where
   pub strict : Strict first
-  pub ordered : (j k : ℕ) → j < k → k ≤ 32 → first (length_at j) (length_at k) ≡ true
-  pub reached : (n : ℕ) → n ≤ 32 → (k : ℕ) × (k ≤ 32) × (length_at k ≡ n)
+  pub ordered : (j k : ℕ) → j < k → k ≤ w → first (length_at j) (length_at k) ≡ true
+  pub reached : (n : ℕ) → n ≤ w → (k : ℕ) × (k ≤ w) × (length_at k ≡ n)
 
--- the longest first, at the turns from 32 down, and the shortest first, at the turns from 0 up: that both are such orders is the law that
+-- the longest first, at the turns from w down, and the shortest first, at the turns from 0 up: that both are such orders is the law that
 -- the two passes of the code have to give, so its proofs stand here
 
 pub shorter_strict : Strict nat_lt
@@ -37,15 +37,15 @@ turned_strict first s = record {
 pub longer_strict : Strict is_longer
 longer_strict = turned_strict nat_lt shorter_strict
 
-pub longest_through : GoesThrough is_longer (λ turn. 32 - turn)
-longest_through = record {
+pub longest_through : (w : ℕ) → GoesThrough w is_longer (λ turn. w - turn)
+longest_through w = record {
   strict = longer_strict;
   ordered = λ j k h l. grind (arith, nat_tests);
-  reached = λ n h. (32 - n, omega arith, omega arith);
+  reached = λ n h. (w - n, omega arith, omega arith);
 }
 
-pub shortest_through : GoesThrough nat_lt (λ turn. turn)
-shortest_through = record {
+pub shortest_through : (w : ℕ) → GoesThrough w nat_lt (λ turn. turn)
+shortest_through w = record {
   strict = shorter_strict;
   ordered = λ j k h l. grind (arith, nat_tests);
   reached = λ n h. (n, h, refl);

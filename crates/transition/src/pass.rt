@@ -1,4 +1,5 @@
 ghost use Rattle.std.specs.Prelude.{◌≡◌, ℕ, ◌-◌, ◌<◌, Bool, not, map, length, filter, nat_lt};
+ghost use Rattle.prefix.specs.Model.{address_width};
 ghost use Rattle.table.specs.Model.{entries};
 ghost use Rattle.table.specs.Routes.{entry_of};
 ghost use Rattle.table.specs.Tables.{Entries, Entry, has, holds};
@@ -36,7 +37,7 @@ pub(crate) trait Pass {
         ensures { writing_of result ≡ writing (entry_of route.now) };
 
     // the turns keep to the order, and no length is left out
-    ghost through: { GoesThrough first length_at };
+    ghost through: { GoesThrough address_width first length_at };
 }
 
 // Puts the lines of the new table that the old one does not have, next hop and all, the longest first.
@@ -45,13 +46,13 @@ pub(crate) enum Puts {}
 impl Pass for Puts {
     ghost first = { is_longer };
 
-    ghost length_at = { λ turn. 32 - turn };
+    ghost length_at = { λ turn. address_width - turn };
 
     ghost wants = { λ old e. not (holds e old) };
 
     ghost writing = { putting };
 
-    ghost through = { longest_through };
+    ghost through = { longest_through address_width };
 
     fn length_at(turn: u8) -> u8 {
         LENGTHS - 1 - turn
@@ -79,7 +80,7 @@ impl Pass for Drops {
 
     ghost writing = { dropping };
 
-    ghost through = { shortest_through };
+    ghost through = { shortest_through address_width };
 
     fn length_at(turn: u8) -> u8 {
         turn
