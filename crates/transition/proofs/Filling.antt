@@ -55,24 +55,25 @@ module _ (make : Entry → Writing) (test : Entry → Bool) (rs : List Route) wh
 
 -- BY TURNS
 
-module _ (make : Entry → Writing) (test : Entry → Bool) (rs : List Route) (f : ℕ → ℕ) where
+-- so many turns as there are lengths
+module _ (turns_in_all : ℕ) (make : Entry → Writing) (test : Entry → Bool) (rs : List Route) (f : ℕ → ℕ) where
   -- the writes from a turn on, and from the place i of the lines within a turn on
   abbrev pub at_turn : ℕ → List Writing
-  at_turn n = remaining make test rs (turns f (33 - n) n)
+  at_turn n = remaining make test rs (turns f (turns_in_all - n) n)
 
   abbrev pub within_turn : ℕ → ℕ → List Writing
-  within_turn n i = partial make test rs (f n) (turns f (33 - (n + 1)) (n + 1)) i
+  within_turn n i = partial make test rs (f n) (turns f (turns_in_all - (n + 1)) (n + 1)) i
 
-  pub turn_begins : (n : ℕ) → n < 33 → at_turn n ≡ within_turn n 0
+  pub turn_begins : (n : ℕ) → n < turns_in_all → at_turn n ≡ within_turn n 0
   unfolding tiers turns
   turn_begins n h =
-      let e : 33 - n ≡ suc (33 - (n + 1)) = omega arith in
+      let e : turns_in_all - n ≡ suc (turns_in_all - (n + 1)) = omega arith in
       let z : n + 1 ≡ suc n = omega arith in
       rw (e, z)
 
-  pub no_turn : (n : ℕ) → 33 ≤ n → at_turn n ≡ []
+  pub no_turn : (n : ℕ) → turns_in_all ≤ n → at_turn n ≡ []
   unfolding tiers turns
-  no_turn n h = let e : 33 - n ≡ 0 = omega arith in rw e
+  no_turn n h = let e : turns_in_all - n ≡ 0 = omega arith in rw e
 
 every_kept : (f g : Entry → Bool) (t : Entries) → every f t ≡ true → every f (filter g t) ≡ true
 unfolding every
@@ -95,13 +96,13 @@ fits_short (e ∷ es) h =
 -- all of a table's lines that pass the test are written, to as many places
 module _ (first : ℕ → ℕ → Bool) (make : Entry → Writing) (test : Entry → Bool) (f : ℕ → ℕ) (through : GoesThrough 32 first f) (t : Table) (rs : List Route) (are : map entry_of rs ≡ entries t)
     (out : List Write) (n : ℕ) (long : length out ≡ length (filter test (entries t))) where
-  turns_are : at_turn make test rs f 0 ≡ map make (sorted_by (by_length first) (filter test (entries t)))
+  turns_are : at_turn 33 make test rs f 0 ≡ map make (sorted_by (by_length first) (filter test (entries t)))
   turns_are =
       let short = fits_short (entries t) (and_parts (distinct (entries t)) (fits 32 (entries t)) (all_sound t).0).1 in
       ap (λ (es : Entries). map make (tiers (turns f 33 0) (filter test es))) are
       ∙ ap (map make) (sym (sorted_turns 32 first f through (filter test (entries t)) (all_kept_by test (λ e. length e.prefix ≤ 32) (entries t) short) (rising_kept test (entries t) t.ordered)))
 
-  turns_count : length out ≡ length (at_turn make test rs f 0)
+  turns_count : length out ≡ length (at_turn 33 make test rs f 0)
   turns_count =
       long
       ∙ sym (ap length turns_are
@@ -109,13 +110,13 @@ module _ (first : ℕ → ℕ → Bool) (make : Entry → Writing) (test : Entry
       ∙ length_sorted (by_length first) (filter test (entries t)))
 
   -- no place is left
-  pub all_places : (rest : List Writing) → Filled (at_turn make test rs f 0) out n rest → n ≡ length out → writings_of out ≡ map make (sorted_by (by_length first) (filter test (entries t)))
-  all_places rest d e = filled_full (at_turn make test rs f 0) out n rest d e turns_count ∙ turns_are
+  pub all_places : (rest : List Writing) → Filled (at_turn 33 make test rs f 0) out n rest → n ≡ length out → writings_of out ≡ map make (sorted_by (by_length first) (filter test (entries t)))
+  all_places rest d e = filled_full (at_turn 33 make test rs f 0) out n rest d e turns_count ∙ turns_are
 
   -- no turn is left
-  pub all_turns : (k : ℕ) → 33 ≤ k → Filled (at_turn make test rs f 0) out n (at_turn make test rs f k) → writings_of out ≡ map make (sorted_by (by_length first) (filter test (entries t)))
+  pub all_turns : (k : ℕ) → 33 ≤ k → Filled (at_turn 33 make test rs f 0) out n (at_turn 33 make test rs f k) → writings_of out ≡ map make (sorted_by (by_length first) (filter test (entries t)))
   all_turns k h d =
-      let e = rw (no_turn make test rs f k h) at d in
-      let l = filled_length (at_turn make test rs f 0) out n [] e in
+      let e = rw (no_turn 33 make test rs f k h) at d in
+      let l = filled_length (at_turn 33 make test rs f 0) out n [] e in
       let c = turns_count in
       all_places [] e (omega arith)
