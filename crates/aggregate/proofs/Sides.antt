@@ -14,7 +14,7 @@ use Rattle.fewest.proofs.Halves.{beneath_append, beneath_beneath, beneath_empty,
 use Rattle.aggregate.specs.declared.need.Need.{Need}
 use Rattle.aggregate.specs.declared.edge.EdgeRoutes.{EdgeRoutes}
 use Rattle.aggregate.specs.Model.{among, Keeps}
-use Rattle.aggregate.specs.Routes.{line_of, lines_of, sides, Brought, Surrounds}
+use Rattle.aggregate.specs.Routes.{line_of, lines_of, sides, side_at, Brought, Surrounds}
 use Rattle.aggregate.proofs.Keeping.{along_lines}
 
 -- ONE BIT
@@ -62,18 +62,14 @@ beneath_ordered : (f : Bool) (p : Bits) (s t : Entries) → beneath p (ordered f
 beneath_ordered true p s t = beneath_append p s t
 beneath_ordered false p s t = beneath_append p t s
 
--- the lines on the other side of the bit at a place
-abbrev pub side_in : Bool → ℕ → Bits → ℕ → Entries
-side_in f x p i = beneath (take i p) (sides f x (take 1 (drop i p)))
-
 -- the lines aside of one or two bits are those of the first and those of the second
 sides_two : (f : Bool) (x i : ℕ) (p : Bits) → 0 < length (drop i p) → length (drop i p) ≤ 2 →
-    beneath (take i p) (sides f x (drop i p)) ≡ ordered f (side_in f x p i) (side_in f x p (suc i))
+    beneath (take i p) (sides f x (drop i p)) ≡ ordered f (side_at f x p i) (side_at f x p (suc i))
 sides_two f x (suc i) [] l m = absurd (omega arith)
 sides_two f x (suc i) (b ∷ p) l m =
     sym (beneath_beneath (b ∷ []) (take i p) (sides f x (drop i p))) ∙
     ap (beneath (b ∷ [])) (sides_two f x i p l m) ∙
-    beneath_ordered f (b ∷ []) (side_in f x p i) (side_in f x p (suc i)) ∙
+    beneath_ordered f (b ∷ []) (side_at f x p i) (side_at f x p (suc i)) ∙
     ap₂ (ordered f) (beneath_beneath (b ∷ []) (take i p) (sides f x (take 1 (drop i p)))) (beneath_beneath (b ∷ []) (take (suc i) p) (sides f x (take 1 (drop (suc i) p))))
 sides_two f x zero [] l m = absurd (omega arith)
 sides_two true x zero (false ∷ []) l m = unfold sides_before beneath in refl
@@ -141,8 +137,8 @@ module _ (p : Bits) (i x h : ℕ) (n : Need) (r : EdgeRoutes) where
     on = o;
   })
 
-  pub sides_routed : Sides ≡ choice → lines_of r.before ≡ side_in true x p i ++ side_in true x p (suc i) →
-      lines_of r.after ≡ side_in false x p (suc i) ++ side_in false x p i → r.onward ≡ h → Routed
+  pub sides_routed : Sides ≡ choice → lines_of r.before ≡ side_at true x p i ++ side_at true x p (suc i) →
+      lines_of r.after ≡ side_at false x p (suc i) ++ side_at false x p i → r.onward ≡ h → Routed
   sides_routed is b a o =
       let short = along_sides (length p - i) x (among n) h is in
       let some : 0 < length (drop i p) = omega (arith, length-drop i p, short.0) in

@@ -29,9 +29,9 @@ lines_of (o ∷ os) = line_of o ++ lines_of os
 abbrev pub sides : Bool → ℕ → Bits → Entries
 sides earlier x bs = (if earlier then sides_before x bs else sides_after x bs)
 
--- of the node's bit at a place
-abbrev pub side_at : Edge → ℕ → Bool → Entries
-side_at e i earlier = beneath (take i (bits e.node)) (sides earlier e.hop (take 1 (drop i (bits e.node))))
+-- those on the other side of the bit of p at a place
+abbrev pub side_at : Bool → ℕ → Bits → ℕ → Entries
+side_at earlier x p i = beneath (take i p) (sides earlier x (take 1 (drop i p)))
 
 -- the routes along the edge that ends at p and has all but the first `from` bits of it, if c is written along it for one who comes with h: the lines
 -- of the definition, under the bits above the edge

@@ -66,7 +66,7 @@ impl Edge {
     // The route on the other side of the node's bit at a place, if that bit is the given one: the route comes before the node in the order of
     // tables if the bit is 1, and after it if it is 0. There is none past the end of the node.
     fn other_side(self, place: u8, bit: bool) -> Option<Route>
-        ensures { line_of result ≡ side_at self place bit }
+        ensures { line_of result ≡ side_at bit self.hop (prefix_bits self.node) place }
     {
         if self.node.bit(place)? != bit {
             return None;

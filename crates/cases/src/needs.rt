@@ -2,6 +2,7 @@
 use aggregate::{Edge, EdgeRoutes, HopSet, Need, choose};
 use fewest::Along;
 use prefix::Prefix;
+use std::test::Fail;
 use table::Route;
 
 // A route that is there.
@@ -28,6 +29,20 @@ fn sets_have_their_members(rt: HostRuntime) {
     let shared = mixed & (high | HopSet::only(192));
     assert!(rt; !shared.is_empty());
     assert_eq!(rt; shared.lowest(), Some(255));
+}
+
+// As an array of their words does.
+#[test]
+fn sets_compare_and_show_as_their_words(rt: HostRuntime) -> Result<(), Fail> {
+    let none = HopSet::default();
+    assert!(rt; none.is_empty());
+    assert!(rt; none < HopSet::only(1));
+    assert!(rt; HopSet::only(255) < HopSet::only(0));
+    let printed = format!(in rt.alloc(); "{:?}", HopSet::only(1))?;
+    assert_eq!(rt; printed.as_str(), "[2, 0, 0, 0]");
+    let printed = format!(in rt.alloc(); "{:?}", Need::uniform(1))?;
+    assert_eq!(rt; printed.as_str(), "Need { count: 0, hops: [2, 0, 0, 0] }");
+    Ok(())
 }
 
 #[test]

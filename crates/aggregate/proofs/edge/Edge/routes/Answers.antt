@@ -28,7 +28,7 @@ returns-in-Sides c =
     let few = along_sides (edge_len c.args.self) c.args.self.hop (among c.args.need.now) c.args.given is in
     let next : c.saturating_add-inner.result ≡ suc c.args.self.from = omega (arith, few.0, key_short c.args.self.node) in
     let k = sides_routed (bits c.args.self.node) c.args.self.from c.args.self.hop c.args.given c.args.need.now _ is
-    (two_lines c.other_side.result c.other_side-in-Sides.result _ _ c.other_side.ensures (c.other_side-in-Sides.ensures ∙ ap (λ i. side_at c.args.self i true) next))
-    (two_lines c.other_side-in-Sides-2.result c.other_side-in-Sides-3.result _ _ (c.other_side-in-Sides-2.ensures ∙ ap (λ i. side_at c.args.self i false) next) c.other_side-in-Sides-3.ensures)
+    (two_lines c.other_side.result c.other_side-in-Sides.result _ _ c.other_side.ensures (c.other_side-in-Sides.ensures ∙ ap (side_at true c.args.self.hop (bits c.args.self.node)) next))
+    (two_lines c.other_side-in-Sides-2.result c.other_side-in-Sides-3.result _ _ (c.other_side-in-Sides-2.ensures ∙ ap (side_at false c.args.self.hop (bits c.args.self.node)) next) c.other_side-in-Sides-3.ensures)
     refl in
     record { value = k.value; lines = k.lines }
